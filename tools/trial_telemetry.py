@@ -9,12 +9,11 @@ Each case is one line of a unit. Its answer is stated here by hand from 01, "The
 A reading's kW is checked against exact fractions besides.
 """
 import pathlib
-import struct
 import sys
-from fractions import Fraction
+
+from lines import READINGS, UNSIGNED, nearest_kw, packed, write_or_check
 
 CRATE = pathlib.Path(__file__).resolve().parent.parent / "crates" / "trial_telemetry"
-BUFFER = 65536  # the bytes that the program reads
 
 # The fields of a plain good line: all different, so that none can stand for another.
 PLAIN = {
@@ -33,35 +32,16 @@ PLAIN = {
     "ramp down": 0x40900000,  # 4.5
 }
 PRINTED = ["mode", "target", "availability", "raise", "lower", "bid up", "bid down"]
-READINGS = ["MW", "ramp up", "ramp down"]
 RATES = ["ramp up", "ramp down"]
-UNSIGNED = ["availability", "raise", "lower", "bid up", "bid down"]
 PLAIN_KW = {"MW": 100000, "ramp up": 3000, "ramp down": 4500}
 WORDS = {0: "good", 1: "substituted", 2: "missing"}
 UNREADABLE = "unreadable"
 
-cases = []  # label, kind, chained, the slice, the answer
-
-
-def nearest_kw(bits):
-    """The nearest whole number to 1000 times the float's exact value, halves away from zero."""
-    exponent, fraction = bits >> 23 & 255, bits & 0x7FFFFF
-    assert exponent < 255, "no number"
-    if exponent:
-        fraction += 1 << 23
-    size = 1000 * fraction * Fraction(2) ** (max(exponent, 1) - 150)
-    whole = int(size + Fraction(1, 2))
-    return -whole if bits >> 31 else whole
-
-
-def packed(f):
-    head = bytes([f["quality"], f["mode"], f["byte 2"], f["byte 3"]])
-    numbers = struct.pack("<i5I", f["target"], *(f[name] for name in UNSIGNED))
-    return head + numbers + struct.pack("<3I", *(f[name] for name in READINGS))
+cases = []  # label, what the program reads, the answer
 
 
 def put(label, kind, chained, line, answer):
-    cases.append((label, kind, chained, line, answer))
+    cases.append((label, bytes([kind, chained, len(line)]) + line, answer))
 
 
 def unreadable(label, changed, kind=1, chained=False):
@@ -260,31 +240,10 @@ def table():
     unreadable("table: bits 7FC00000 as MW", {"MW": 0x7FC00000})
 
 
-def files():
+def main(arguments):
     for section in (plain_lines, heads, targets, unsigned_fields, slices, float_bounds, patterns, rounding, table):
         section()
-    labels = [label for label, *_ in cases]
-    assert len(labels) == len(set(labels)), "a label stands twice"
-    given = b""
-    for label, kind, chained, line, _ in cases:
-        given += bytes([len(label)]) + label.encode("ascii") + bytes([kind, chained, len(line)]) + line
-    assert len(given) <= BUFFER, len(given)
-    text = "".join(f"{label}: {answer}\n" for label, *_, answer in cases)
-    return {CRATE / "stdin": given, CRATE / "stdout": text.encode("ascii")}
-
-
-def main(arguments):
-    if arguments not in ([], ["--check"]):
-        sys.exit(__doc__)
-    made = files()
-    if arguments:
-        differing = [path for path, content in made.items() if not path.is_file() or path.read_bytes() != content]
-        for path in differing:
-            print(f"{path.name} of {CRATE.name} differs from what tools/trial_telemetry.py makes")
-        sys.exit(1 if differing else 0)
-    for path, content in made.items():
-        path.write_bytes(content)
-    print(f"{len(cases)} cases")
+    write_or_check(arguments, __doc__, CRATE, cases)
 
 
 if __name__ == "__main__":

@@ -3,14 +3,14 @@
 use mathlib.Core.Path.{_≡_, refl, sym, ap, _∙_}
 use mathlib.Core.List.{List, [], _∷_, _++_, append-assoc}
 use Prim.Native.Nat.{ℕ, zero, suc, _+_, _*_, _/_, _%_, _^_, _≤_, _<_}
-use native.Mathlib.Nat.{mod-eq-of-lt, pow-suc}
+use native.Mathlib.Nat.{add-assoc, mod-eq-of-lt, pow-suc}
 use native.Mathlib.Numerals.{add-one}
 use native.Mathlib.Omega.{arith}
 use lib.Arith.{mod-mul}
 use lib.Dec.{lit<}
 use lib.IntN.{ℤ}
 use lib.ListN.{length, getD, set, take, drop, length-append, length-drop}
-use lib.Seq.{length-take-le, take-at, drop-at, drop-cons, sets, sets-eq}
+use lib.Seq.{length-take-le, take-at, drop-at, drop-drop, drop-cons, sets-eq}
 use mir.Syntax.{w32}
 use mir.Val.{SFits, toZ, ofZ}
 use mir.ValLaws.{toZ-ofZ, ofZ-fits}
@@ -77,14 +77,43 @@ four s at h =
     omega (arith, a, b, c, d, none s (at + 4))
 
 -- four stores
+pub four-stores : (s : List ℕ) (at a b c d : ℕ) → at + 4 ≤ length s
+    → set (set (set (set s at a) (at + 1) b) (at + 2) c) (at + 3) d ≡ putAt s at (a ∷ b ∷ c ∷ d ∷ [])
+unfolding putAt
+four-stores s at a b c d h =
+    let third : at + 3 ≡ suc (suc (suc at)) = omega arith in
+    let second : at + 2 ≡ suc (suc at) = omega arith in
+    let bytes = a ∷ b ∷ c ∷ d ∷ [] in
+    rw (third, second, add-one at)
+    (sets-eq bytes s at h ∙ append-assoc (take at s) bytes (drop (at + 4) s))
+
 pub stores : (s : List ℕ) (at n : ℕ) → at + 4 ≤ length s
     → set (set (set (set s at (n % 256)) (at + 1) (n / 256 % 256)) (at + 2) (n / 65536 % 256)) (at + 3) (n / 16777216 % 256)
     ≡ putAt s at (bytesOf 4 n)
-unfolding putAt bytesOf
+unfolding bytesOf
 stores s at n h =
     let second : n / 65536 ≡ n / 256 / 256 = omega arith in
     let third : n / 16777216 ≡ n / 256 / 256 / 256 = omega arith in
-    let places : at + 3 ≡ suc (suc (suc at)) = omega arith in
-    let place : at + 2 ≡ suc (suc at) = omega arith in
-    rw (second, third, places, place, add-one at)
-    (sets-eq (bytesOf 4 n) s at h ∙ append-assoc (take at s) (bytesOf 4 n) (drop (at + 4) s))
+    rw (second, third) (four-stores s at (n % 256) (n / 256 % 256) (n / 256 / 256 % 256) (n / 256 / 256 / 256 % 256) h)
+
+-- what is written behind what was written is written with it
+pub put-put : (s : List ℕ) (at next : ℕ) (xs ys : List ℕ) → at + length xs ≡ next → next + length ys ≤ length s
+    → putAt (putAt s at xs) next ys ≡ putAt s at (xs ++ ys)
+unfolding putAt
+put-put s at next xs ys e h =
+    let front = take at s ++ xs in
+    let rest = drop next s in
+    let size : length front ≡ next = rw (length-append (take at s) xs, length-take-le at s (omega arith)) e in
+    rw (
+      length-append xs ys,
+      e,
+      ← append-assoc (take at s) xs rest,
+      take-at front rest next size,
+      ← drop-drop (length ys) next (front ++ rest),
+      drop-at front rest next size,
+      drop-drop (length ys) next s,
+      append-assoc (take at s) xs (ys ++ drop (next + length ys) s),
+      append-assoc xs ys (drop (at + (length xs + length ys)) s),
+      ← add-assoc at (length xs) (length ys),
+      e,
+    )

@@ -1,0 +1,39 @@
+-- `marks::Sums::plus` meets its contract. Assumes nothing.
+use borrow.Author.Needs.{needs}
+use mathlib.Core.Path.{subst}
+use Rattle.telemetry.specs.declared.Line.{Line}
+use Rattle.marks.specs.Bounds.{SmallLine}
+use Rattle.marks.specs.Aggregates.{addMember}
+use Rattle.marks.proofs.Sums.plus.Statement.{statement}
+use Rattle.marks.proofs.Sums.plus.Tie as tie
+
+enum-known-line : tie.Need-enum-known-line
+enum-known-line c = search needs
+
+plus-readable-requires : tie.Need-plus-readable-requires
+plus-readable-requires c κs = ((c .before .before .before .before) .pre .0, subst SmallLine (c .before .line .given .1) ((c .before .before .before .before) .pre .1 .line))
+
+enum-told : tie.Need-enum-told
+enum-told c = search needs
+
+plus-unreadable-requires : tie.Need-plus-unreadable-requires
+plus-unreadable-requires c κs = search needs
+
+returns : tie.Need-returns
+unfolding addMember
+returns c = rw (c .before .before .line .given .1) (c .plus-readable .ensures)
+
+returns-2 : tie.Need-returns-2
+unfolding addMember
+returns-2 c = rw (c .before .enum-told .given .1) (c .plus-unreadable .ensures)
+
+pub plus-spec : {M : Type 1} → statement M
+plus-spec =
+    tie.close
+    (tie.spec
+    enum-known-line
+    plus-readable-requires
+    enum-told
+    plus-unreadable-requires
+    returns
+    returns-2)

@@ -1,0 +1,15 @@
+-- `marks::Sums::plus_unreadable` meets its contract. Assumes nothing.
+use borrow.Author.Needs.{needs}
+use Rattle.marks.specs.Aggregates.{addUnreadable}
+use Rattle.marks.proofs.Sums.plus_unreadable.Statement.{statement}
+use Rattle.marks.proofs.Sums.plus_unreadable.Tie as tie
+
+unreadable-requires : tie.Need-unreadable-requires
+unreadable-requires c κs = search needs
+
+returns : tie.Need-returns
+unfolding addUnreadable
+returns c = cc
+
+pub plus-unreadable-spec : {M : Type 1} → statement M
+plus-unreadable-spec = tie.close (tie.spec unreadable-requires returns)

@@ -1,0 +1,40 @@
+-- `marks::allowed_rate` meets its contract. Assumes nothing.
+use borrow.Author.Needs.{needs}
+use native.Mathlib.Omega.{arith}
+use mathlib.Core.Path.{_≡_, sym, ap, _∙_}
+use mir.Syntax.{w32, w64}
+use mir.Val.{toZ, ofZ}
+use mir.ValLaws.{toZ-ofZ}
+use native.Mathlib.Nat.{le-refl}
+use lib.IntN.{natAbs}
+use Rattle.signed.proofs.Sizes.{held32, held64, size32}
+use Rattle.telemetry.specs.Kilowatts.{kilowattsOf}
+use Rattle.telemetry.proofs.Floats.{kilowatts-size}
+use Rattle.marks.proofs.allowed_rate.Statement.{statement}
+use Rattle.marks.proofs.allowed_rate.Tie as tie
+
+wide-is : (c : tie.After-widened) → toZ w64 (ofZ w64 (c .widened .result)) ≡ kilowattsOf (c .before .before .args .scada)
+wide-is c =
+    held64 (c .widened .result) (c .widened .ok)
+    ∙ c .widened .ensures
+    ∙ held32 (c .before .kilowatts .result) (c .before .kilowatts .ok)
+    ∙ c .before .kilowatts .ensures
+
+kilowatts-requires : tie.Need-kilowatts-requires
+kilowatts-requires c κs = search needs
+
+widened-requires : tie.Need-widened-requires
+widened-requires c κs = search needs
+
+size-requires : tie.Need-size-requires
+size-requires c κs = rw (wide-is c) (omega (arith, kilowatts-size (c .before .before .args .scada)))
+
+lesser-requires : tie.Need-lesser-requires
+lesser-requires c κs = search needs
+
+returns : tie.Need-returns
+returns c = cc (wide-is (c .before .before))
+
+pub allowed-rate-spec : {M : Type 1} → statement M
+allowed-rate-spec =
+    tie.close (tie.spec kilowatts-requires widened-requires size-requires lesser-requires returns)

@@ -1,0 +1,38 @@
+-- `marks::assess_unit` meets its contract. Assumes nothing.
+use borrow.Author.Needs.{needs}
+use mathlib.Core.Path.{subst}
+use Rattle.marks.specs.Bounds.{SmallLine}
+use Rattle.marks.specs.Assessments.{unitAssessment}
+use Rattle.marks.proofs.assess_unit.Statement.{statement}
+use Rattle.marks.proofs.assess_unit.Tie as tie
+
+enum-known-line : tie.Need-enum-known-line
+enum-known-line c = search needs
+
+assess-readable-requires : tie.Need-assess-readable-requires
+assess-readable-requires c κs = (subst SmallLine (c .before .line .given .1) ((c .before .before .before .before) .pre .line), (c .before .before .before .before) .pre .kept)
+
+enum-told : tie.Need-enum-told
+enum-told c = search needs
+
+unassessed-requires : tie.Need-unassessed-requires
+unassessed-requires c κs = search needs
+
+returns : tie.Need-returns
+unfolding unitAssessment
+returns c = rw (c .before .before .line .given .1) (c .assess-readable .ensures)
+
+returns-2 : tie.Need-returns-2
+unfolding unitAssessment
+returns-2 c = rw (c .before .enum-told .given .1) (c .unassessed .ensures)
+
+pub assess-unit-spec : {M : Type 1} → statement M
+assess-unit-spec =
+    tie.close
+    (tie.spec
+    enum-known-line
+    assess-readable-requires
+    enum-told
+    unassessed-requires
+    returns
+    returns-2)

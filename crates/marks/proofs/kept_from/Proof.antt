@@ -1,0 +1,27 @@
+-- `marks::kept_from` meets its contract. Assumes nothing.
+use borrow.Author.Needs.{needs}
+use Rattle.signed.proofs.Sizes.{held32}
+use Rattle.marks.specs.KeptLines.{keptFrom}
+use Rattle.marks.proofs.kept_from.Statement.{statement}
+use Rattle.marks.proofs.kept_from.Tie as tie
+
+enum-known-line : tie.Need-enum-known-line
+enum-known-line c = search needs
+
+enum-told : tie.Need-enum-told
+enum-told c = search needs
+
+nothing-kept-requires : tie.Need-nothing-kept-requires
+nothing-kept-requires c κs = search needs
+
+returns : tie.Need-returns
+unfolding keptFrom
+returns c = rw (c .before .before .line .given .1, held32 (c .before .before .line .given .0 .0 .target) (c .struct-told .given .1 .1 .0 .1))
+
+returns-2 : tie.Need-returns-2
+unfolding keptFrom
+returns-2 c = rw (c .before .enum-told .given .1) (c .nothing-kept .ensures)
+
+pub kept-from-spec : {M : Type 1} → statement M
+kept-from-spec =
+    tie.close (tie.spec enum-known-line enum-told nothing-kept-requires returns returns-2)

@@ -1,0 +1,47 @@
+-- `marks::power_in` meets its contract. Assumes nothing.
+use borrow.Author.Needs.{needs}
+use mathlib.Core.Path.{_∙_}
+use Rattle.signed.proofs.Sizes.{held32}
+use Rattle.marks.specs.Assessments.{kilowattsIn}
+use Rattle.marks.proofs.power_in.Statement.{statement}
+use Rattle.marks.proofs.power_in.Tie as tie
+
+enum-known-reading : tie.Need-enum-known-reading
+enum-known-reading c = search needs
+
+kilowatts-requires : tie.Need-kilowatts-requires
+kilowatts-requires c κs = search needs
+
+enum-known-reading-2 : tie.Need-enum-known-reading-2
+enum-known-reading-2 c = search needs
+
+kilowatts-requires-2 : tie.Need-kilowatts-requires-2
+kilowatts-requires-2 c κs = search needs
+
+enum-told : tie.Need-enum-told
+enum-told c = search needs
+
+returns : tie.Need-returns
+unfolding kilowattsIn
+returns c = rw (c .before .before .reading .given .1) (held32 (c .kilowatts .result) (c .kilowatts .ok) ∙ c .kilowatts .ensures)
+
+returns-2 : tie.Need-returns-2
+unfolding kilowattsIn
+returns-2 c = rw (c .before .before .reading2 .given .1) (held32 (c .kilowatts2 .result) (c .kilowatts2 .ok) ∙ c .kilowatts2 .ensures)
+
+returns-3 : tie.Need-returns-3
+unfolding kilowattsIn
+returns-3 c = rw (c .enum-told .given .1)
+
+pub power-in-spec : {M : Type 1} → statement M
+power-in-spec =
+    tie.close
+    (tie.spec
+    enum-known-reading
+    kilowatts-requires
+    enum-known-reading-2
+    kilowatts-requires-2
+    enum-told
+    returns
+    returns-2
+    returns-3)

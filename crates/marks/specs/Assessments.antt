@@ -1,0 +1,98 @@
+-- The assessment of a unit: mark, error, small trigger and power (01, "Triggers and errors" and "Marks and runs").
+use mathlib.Core.Bool.{Bool, true, false, cond, not, _&&_}
+use Prim.Native.Nat.{ℕ}
+use lib.Dec.{eqb}
+use lib.IntN.{ℤ, pos}
+use Rattle.telemetry.specs.Kilowatts.{kilowattsOf}
+use Rattle.telemetry.specs.Lines.{powerOf}
+use Rattle.telemetry.specs.declared.Fields.{Fields}
+use Rattle.telemetry.specs.declared.Line.{Line}
+use Rattle.telemetry.specs.declared.Line.the-variants.{Readable, Unreadable}
+use Rattle.telemetry.specs.declared.Reading.{Reading}
+use Rattle.telemetry.specs.declared.Reading.the-variants.{Good, Substituted, Missing}
+use Rattle.marks.specs.Triggers.{directionOf, rateOf, capabilityOf, smallTrigger, largeTrigger}
+use Rattle.marks.specs.Errors.{errorOf, exceeds}
+use Rattle.marks.specs.declared.Kept.{Kept}
+use Rattle.marks.specs.declared.Sight.{Sight}
+use Rattle.marks.specs.declared.Mark.{Mark}
+use Rattle.marks.specs.declared.Mark.the-variants.{Off, Blank, Clear, Doubt, Small, Large}
+use Rattle.marks.specs.declared.Basis.{Basis}
+use Rattle.marks.specs.declared.Assessment.{Assessment}
+
+-- ---- a telemetry value
+
+unfoldable pub kilowattsIn : Reading → ℤ
+kilowattsIn (Good x) = kilowattsOf x
+kilowattsIn (Substituted x) = kilowattsOf x
+kilowattsIn Missing = pos 0
+
+-- quality 2
+unfoldable pub isMissing : Reading → Bool
+isMissing (Good x) = false
+isMissing (Substituted x) = false
+isMissing Missing = true
+
+-- quality 1
+unfoldable pub isDoubtful : Reading → Bool
+isDoubtful (Good x) = false
+isDoubtful (Substituted x) = true
+isDoubtful Missing = false
+
+-- neither "quality 2" nor "nothing kept"
+unfoldable pub isKnown : Fields → Kept → Bool
+isKnown f k = not (isMissing (powerOf f)) && k .have
+
+-- ---- what a unit and an aggregate share
+
+-- "no small trigger exceeded → CLEAR; quality 1 .. → DOUBT; large exceeded → LARGE; otherwise SMALL"
+unfoldable pub markOf : ℤ → ℕ → ℕ → Bool → Mark
+markOf error small large doubtful = cond (exceeds error small) (cond doubtful Doubt (cond (exceeds error large) Large Small)) Clear
+
+unfoldable pub judged : Basis → Assessment
+judged b =
+    record {
+      mark = markOf (errorOf b) (smallTrigger (b .availability) (b .rate)) (largeTrigger (b .availability) (b .rate)) (b .doubtful);
+      error = errorOf b;
+      trigger = smallTrigger (b .availability) (b .rate);
+      power = b .power;
+    }
+
+-- "Error and trigger are 0 for OFF and BLANK"
+abbrev pub without : Mark → Assessment
+without mark = record { mark = mark; error = pos 0; trigger = 0; power = pos 0 }
+
+-- ---- a unit
+
+-- "For kinds 1 and 3 up = FCR and down = FCL; for a load up = FCL and down = FCR"
+abbrev pub upOf : ℕ → Kept → ℤ
+upOf kind k = cond (eqb kind 2) (pos (k .lower)) (pos (k .raise))
+
+abbrev pub downOf : ℕ → Kept → ℤ
+downOf kind k = cond (eqb kind 2) (pos (k .raise)) (pos (k .lower))
+
+-- "The error compares MW of this line with MWB, FCR and FCL kept"; the rate of change goes by this line's MWB
+unfoldable pub unitBasis : ℕ → Fields → Kept → Basis
+unitBasis kind f k =
+    let power = kilowattsIn (powerOf f) in
+    record {
+      power = power;
+      target = k .target;
+      up = upOf kind k;
+      down = downOf kind k;
+      availability = f .availability;
+      rate = rateOf (directionOf (f .target) power) (capabilityOf f);
+      doubtful = isDoubtful (powerOf f);
+    }
+
+-- "member unit: .. conformance mode not 2 → OFF", then "quality 2, or nothing kept .. → BLANK"
+unfoldable pub readableAssessment : ℕ → Bool → Fields → Kept → Assessment
+readableAssessment kind chained f k =
+    cond (chained && not (eqb (f .mode) 2)) (without Off) (cond (isKnown f k) (judged (unitBasis kind f k)) (without Blank))
+
+-- "unreadable → BLANK" goes first
+abbrev pub lineAssessment : ℕ → Bool → Line → Kept → Assessment
+lineAssessment kind chained (Readable f) k = readableAssessment kind chained f k
+lineAssessment kind chained Unreadable k = without Blank
+
+unfoldable pub unitAssessment : Bool → Sight → Assessment
+unitAssessment chained unit = lineAssessment (unit .kind) chained (unit .line) (unit .kept)

@@ -1,0 +1,9 @@
+-- The words of the crate's contracts.
+pub mod Triggers
+pub mod KeptLines
+pub mod Errors
+pub mod Assessments
+pub mod Aggregates
+pub mod Bounds
+pub mod Hosts
+pub mod Table

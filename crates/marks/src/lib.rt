@@ -1,0 +1,632 @@
+// Triggers, errors and marks of units and aggregates (01, "Triggers and errors" and the list of marks under "Marks and runs").
+// Power is in kW, ramp rates in kW per minute, triggers in hundredths of a kW.
+ghost use mathlib.Core.Path.{_≡_};
+ghost use mathlib.Core.Bool.{true};
+ghost use Prim.Native.Nat.{_*_, _-_, _^_, _<_, _≤_, min, max};
+ghost use lib.IntN.{natAbs};
+ghost use lib.ListN.{length};
+ghost use Rattle.telemetry.specs.Kilowatts.{kilowattsOf};
+ghost use Rattle.marks.specs.Triggers.{directionOf, opposite, rateOf, capabilityOf, addCapability, triggerOf};
+ghost use Rattle.marks.specs.Errors.{errorOf, exceeds};
+ghost use Rattle.marks.specs.KeptLines.{nothingKept, keptBounded, keptFrom};
+ghost use Rattle.marks.specs.Assessments.{kilowattsIn, isMissing, isDoubtful, isKnown, markOf, judged, without, upOf, downOf, unitBasis, readableAssessment, unitAssessment};
+ghost use Rattle.marks.specs.Aggregates.{addSigned, addFlags, unreadableFlags, addPresent, addKept, addReadable, addUnreadable, addMember, noSums, aggregateBasis, sumsAssessment};
+ghost use Rattle.marks.specs.Bounds.{SmallFields, SmallKept, SmallSight, SmallCapability, SmallPresent, SmallKeptSums, SmallSums, SmallBasis};
+ghost use Rattle.marks.specs.Hosts.{markNumber, secondMark, unitMarkOf};
+use telemetry::Fields;
+use telemetry::Line;
+use telemetry::Reading;
+
+// ---- rate of change
+
+// Which way the power has to go to reach the target.
+pub enum Direction {
+    Up,
+    Down,
+    Level,
+}
+
+// Availability, and the rates of change up, down and at equality: a unit's own, or sums over units.
+pub struct Capability {
+    pub availability: u64,
+    pub up: u64,
+    pub down: u64,
+    pub least: u64,
+}
+
+fn lesser(a: u64, b: u64) -> u64
+    ensures { λ r. ⌜ r ≡ min a b ⌝ }
+{
+    if a <= b { a } else { b }
+}
+
+fn greater(a: u64, b: u64) -> u64
+    ensures { λ r. ⌜ r ≡ max a b ⌝ }
+{
+    if a <= b { b } else { a }
+}
+
+fn direction_of(target: i64, power: i64) -> Direction
+    ensures { λ r. ⌜ r ≡ directionOf target power ⌝ }
+{
+    if power < target {
+        return Direction::Up;
+    }
+    if target < power {
+        return Direction::Down;
+    }
+    Direction::Level
+}
+
+impl Direction {
+    // A load's part in an aggregate goes the other way.
+    fn turned(self) -> Direction
+        ensures { λ r. ⌜ r ≡ opposite self ⌝ }
+    {
+        match self {
+            Direction::Up => Direction::Down,
+            Direction::Down => Direction::Up,
+            Direction::Level => Direction::Level,
+        }
+    }
+}
+
+impl Capability {
+    fn rate(self, direction: Direction) -> u64
+        ensures { λ r. ⌜ r ≡ rateOf direction self ⌝ }
+    {
+        match direction {
+            Direction::Up => self.up,
+            Direction::Down => self.down,
+            Direction::Level => self.least,
+        }
+    }
+
+    // The sums with one unit more, where it counts.
+    fn plus(self, counts: bool, unit: Capability) -> Capability
+        requires { ⌜ SmallCapability (2 ^ 60) self × SmallCapability (2 ^ 60) unit ⌝ }
+        ensures { λ r. ⌜ r ≡ addCapability counts self unit ⌝ }
+    {
+        if counts {
+            Capability {
+                availability: self.availability + unit.availability,
+                up: self.up + unit.up,
+                down: self.down + unit.down,
+                least: self.least + unit.least,
+            }
+        } else {
+            self
+        }
+    }
+}
+
+// The lesser of a SCADA rate, which is in MW per minute, and a bid rate.
+fn allowed_rate(scada: f32, bid: u32) -> u64
+    ensures { λ r. ⌜ r ≡ min (natAbs (kilowattsOf scada)) bid ⌝ }
+{
+    let size = signed::size(signed::widened(telemetry::kilowatts(scada)));
+    lesser(size, bid as u64)
+}
+
+fn capability_of(f: Fields) -> Capability
+    ensures { λ r. ⌜ r ≡ capabilityOf f ⌝ }
+{
+    let readings = f.readings;
+    let up = allowed_rate(readings.ramp_up, f.bid_up);
+    let down = allowed_rate(readings.ramp_down, f.bid_down);
+    Capability {
+        availability: f.availability as u64,
+        up,
+        down,
+        least: lesser(up, down),
+    }
+}
+
+// ---- kept lines
+
+// What the interval before left of a unit's line. Without `have` the rest is 0.
+pub struct Kept {
+    pub have: bool,
+    pub target: i32,
+    pub raise: u32,
+    pub lower: u32,
+}
+
+pub fn nothing_kept() -> Kept
+    ensures { λ r. ⌜ r ≡ nothingKept ⌝ }
+{
+    Kept {
+        have: false,
+        target: 0,
+        raise: 0,
+        lower: 0,
+    }
+}
+
+// A readable line is kept, whatever its quality; an unreadable one leaves nothing.
+pub fn kept_from(line: Line) -> Kept
+    ensures { λ r. ⌜ r ≡ keptFrom line ⌝ }
+{
+    match line {
+        Line::Readable(f) => Kept {
+            have: true,
+            target: f.target,
+            raise: f.raise,
+            lower: f.lower,
+        },
+        Line::Unreadable => nothing_kept(),
+    }
+}
+
+// Whether a kept line is within the bounds of a readable one.
+pub fn kept_bounded(k: Kept) -> bool
+    ensures { λ r. ⌜ r ≡ keptBounded k ⌝ }
+{
+    let target = signed::size(signed::widened(k.target)) <= 2000000;
+    target & (k.raise <= 2000000) & (k.lower <= 2000000)
+}
+
+// ---- the assessment of a point
+
+pub enum Mark {
+    Off,
+    Blank,
+    Clear,
+    Doubt,
+    Small,
+    Large,
+}
+
+// The mark, the signed error, the small trigger, and the power (MW of a unit, the signed sum of an aggregate).
+pub struct Assessment {
+    pub mark: Mark,
+    pub error: i32,
+    pub trigger: u32,
+    pub power: i32,
+}
+
+// What a point that is neither Off nor Blank is assessed from.
+pub struct Basis {
+    pub power: i64,
+    pub target: i64,
+    pub up: i64,
+    pub down: i64,
+    pub availability: u64,
+    pub rate: u64,
+    pub doubtful: bool,
+}
+
+// A trigger: at least 6 MW, else the lesser of a share of the availability, in per cent, and some hundredths of a minute's ramping.
+fn trigger_of(share: u64, ramping: u64, availability: u64, rate: u64) -> u64
+    requires { ⌜ (share ≤ 5) × (ramping ≤ 400) × (availability ≤ 130000000) × (rate ≤ 130000000) ⌝ }
+    ensures { λ r. ⌜ r ≡ triggerOf share ramping availability rate ⌝ }
+{
+    greater(600000, lesser(share * availability, ramping * rate))
+}
+
+// How far the power is above the target with its up side or below the target with its down side.
+fn error_of(b: Basis) -> i64
+    requires { ⌜ SmallBasis b ⌝ }
+    ensures { λ r. ⌜ r ≡ errorOf b ⌝ }
+{
+    let over = signed::minus(b.power, signed::plus(b.target, b.up));
+    if over > 0 {
+        return over;
+    }
+    let under = signed::minus(0, signed::minus(signed::minus(b.target, b.down), b.power));
+    if under < 0 {
+        return under;
+    }
+    0
+}
+
+fn over_trigger(error: i64, trigger: u64) -> bool
+    requires { ⌜ natAbs error < 2 ^ 40 ⌝ }
+    ensures { λ r. ⌜ r ≡ exceeds error trigger ⌝ }
+{
+    trigger < signed::size(error) * 100
+}
+
+fn mark_of(error: i64, small: u64, large: u64, doubtful: bool) -> Mark
+    requires { ⌜ natAbs error < 2 ^ 40 ⌝ }
+    ensures { λ r. ⌜ r ≡ markOf error small large doubtful ⌝ }
+{
+    if over_trigger(error, small) {
+        if doubtful {
+            return Mark::Doubt;
+        }
+        if over_trigger(error, large) {
+            return Mark::Large;
+        }
+        return Mark::Small;
+    }
+    Mark::Clear
+}
+
+fn judge(b: Basis) -> Assessment
+    requires { ⌜ SmallBasis b ⌝ }
+    ensures { λ r. ⌜ r ≡ judged b ⌝ }
+{
+    let error = error_of(b);
+    let small = trigger_of(3, 200, b.availability, b.rate);
+    let large = trigger_of(5, 400, b.availability, b.rate);
+    let mark = mark_of(error, small, large, b.doubtful);
+    Assessment {
+        mark,
+        error: signed::narrowed(error),
+        trigger: small as u32,
+        power: signed::narrowed(b.power),
+    }
+}
+
+fn unassessed(mark: Mark) -> Assessment
+    ensures { λ r. ⌜ r ≡ without mark ⌝ }
+{
+    Assessment {
+        mark,
+        error: 0,
+        trigger: 0,
+        power: 0,
+    }
+}
+
+// MW as whole kW, where there is a value.
+fn power_in(reading: Reading) -> i32
+    ensures { λ r. ⌜ r ≡ kilowattsIn reading ⌝ }
+{
+    match reading {
+        Reading::Good(x) => telemetry::kilowatts(x),
+        Reading::Substituted(x) => telemetry::kilowatts(x),
+        Reading::Missing => 0,
+    }
+}
+
+fn is_missing(reading: Reading) -> bool
+    ensures { λ r. ⌜ r ≡ isMissing reading ⌝ }
+{
+    match reading {
+        Reading::Good(_) => false,
+        Reading::Substituted(_) => false,
+        Reading::Missing => true,
+    }
+}
+
+// A mark beyond a trigger turns to Doubt on a substituted value.
+fn is_doubtful(reading: Reading) -> bool
+    ensures { λ r. ⌜ r ≡ isDoubtful reading ⌝ }
+{
+    match reading {
+        Reading::Good(_) => false,
+        Reading::Substituted(_) => true,
+        Reading::Missing => false,
+    }
+}
+
+// Whether a readable line can be assessed: it has a value, and a line is kept before it.
+fn is_known(f: Fields, k: Kept) -> bool
+    ensures { λ r. ⌜ r ≡ isKnown f k ⌝ }
+{
+    !is_missing(f.power()) & k.have
+}
+
+// ---- a unit
+
+// A unit as an interval shows it.
+pub struct Sight {
+    pub kind: u8,
+    pub line: Line,
+    pub kept: Kept,
+}
+
+fn up_of(kind: u8, k: Kept) -> i64
+    ensures { λ r. ⌜ r ≡ upOf kind k ⌝ }
+{
+    if kind == 2 {
+        signed::whole(k.lower)
+    } else {
+        signed::whole(k.raise)
+    }
+}
+
+fn down_of(kind: u8, k: Kept) -> i64
+    ensures { λ r. ⌜ r ≡ downOf kind k ⌝ }
+{
+    if kind == 2 {
+        signed::whole(k.raise)
+    } else {
+        signed::whole(k.lower)
+    }
+}
+
+fn unit_basis(kind: u8, f: Fields, k: Kept) -> Basis
+    ensures { λ r. ⌜ r ≡ unitBasis kind f k ⌝ }
+{
+    let reading = f.power();
+    let power = signed::widened(power_in(reading));
+    let direction = direction_of(signed::widened(f.target), power);
+    Basis {
+        power,
+        target: signed::widened(k.target),
+        up: up_of(kind, k),
+        down: down_of(kind, k),
+        availability: f.availability as u64,
+        rate: capability_of(f).rate(direction),
+        doubtful: is_doubtful(reading),
+    }
+}
+
+fn assess_readable(kind: u8, chained: bool, f: Fields, k: Kept) -> Assessment
+    requires { ⌜ SmallFields f × SmallKept k ⌝ }
+    ensures { λ r. ⌜ r ≡ readableAssessment kind chained f k ⌝ }
+{
+    let unmonitored = chained & (f.mode != 2);
+    if unmonitored {
+        return unassessed(Mark::Off);
+    }
+    if is_known(f, k) {
+        return judge(unit_basis(kind, f, k));
+    }
+    unassessed(Mark::Blank)
+}
+
+// The assessment of a unit, which stands in a chain or in none.
+pub fn assess_unit(chained: bool, unit: Sight) -> Assessment
+    requires { ⌜ SmallSight unit ⌝ }
+    ensures { λ r. ⌜ r ≡ unitAssessment chained unit ⌝ }
+{
+    let line = unit.line;
+    let kept = unit.kept;
+    match line {
+        Line::Readable(f) => assess_readable(unit.kind, chained, f, kept),
+        Line::Unreadable => unassessed(Mark::Blank),
+    }
+}
+
+// ---- an aggregate
+
+// Of the members so far: whether every line is readable, some conformance mode is not 0, every member can be assessed, and some
+// value is substituted.
+pub struct Flags {
+    pub readable: bool,
+    pub monitored: bool,
+    pub known: bool,
+    pub doubtful: bool,
+}
+
+// Signed sums of this interval's MWB and MW.
+pub struct Present {
+    pub target: i64,
+    pub power: i64,
+}
+
+// Sums over kept lines: signed MWB, and FCR and FCL.
+pub struct KeptSums {
+    pub target: i64,
+    pub raise: i64,
+    pub lower: i64,
+}
+
+// An aggregate's members so far. `supply` is over kinds 1 and 3, `loads` over kind 2.
+pub struct Sums {
+    pub flags: Flags,
+    pub present: Present,
+    pub kept: KeptSums,
+    pub supply: Capability,
+    pub loads: Capability,
+}
+
+fn add_signed(load: bool, sum: i64, z: i32) -> i64
+    requires { ⌜ natAbs sum < 2 ^ 60 ⌝ }
+    ensures { λ r. ⌜ r ≡ addSigned load sum z ⌝ }
+{
+    if load {
+        signed::minus(sum, signed::widened(z))
+    } else {
+        signed::plus(sum, signed::widened(z))
+    }
+}
+
+impl Flags {
+    fn plus(self, f: Fields, k: Kept) -> Flags
+        ensures { λ r. ⌜ r ≡ addFlags self f k ⌝ }
+    {
+        Flags {
+            readable: self.readable,
+            monitored: self.monitored | (f.mode != 0),
+            known: self.known & is_known(f, k),
+            doubtful: self.doubtful | is_doubtful(f.power()),
+        }
+    }
+
+    fn unreadable(mut self) -> Flags
+        ensures { λ r. ⌜ r ≡ unreadableFlags self ⌝ }
+    {
+        self.readable = false;
+        self
+    }
+}
+
+impl Present {
+    fn plus(self, load: bool, f: Fields) -> Present
+        requires { ⌜ SmallPresent (2 ^ 59) self ⌝ }
+        ensures { λ r. ⌜ r ≡ addPresent load self f ⌝ }
+    {
+        Present {
+            target: add_signed(load, self.target, f.target),
+            power: add_signed(load, self.power, power_in(f.power())),
+        }
+    }
+}
+
+impl KeptSums {
+    fn plus(self, load: bool, k: Kept) -> KeptSums
+        requires { ⌜ SmallKeptSums (2 ^ 59) self ⌝ }
+        ensures { λ r. ⌜ r ≡ addKept load self k ⌝ }
+    {
+        KeptSums {
+            target: add_signed(load, self.target, k.target),
+            raise: signed::plus(self.raise, signed::whole(k.raise)),
+            lower: signed::plus(self.lower, signed::whole(k.lower)),
+        }
+    }
+}
+
+impl Sums {
+    pub fn none() -> Sums
+        ensures { λ r. ⌜ r ≡ noSums ⌝ }
+    {
+        let nothing = Capability {
+            availability: 0,
+            up: 0,
+            down: 0,
+            least: 0,
+        };
+        Sums {
+            flags: Flags {
+                readable: true,
+                monitored: false,
+                known: true,
+                doubtful: false,
+            },
+            present: Present {
+                target: 0,
+                power: 0,
+            },
+            kept: KeptSums {
+                target: 0,
+                raise: 0,
+                lower: 0,
+            },
+            supply: nothing,
+            loads: nothing,
+        }
+    }
+
+    fn plus_readable(self, kind: u8, f: Fields, k: Kept) -> Sums
+        requires { ⌜ SmallSums (2 ^ 59) self × SmallFields f ⌝ }
+        ensures { λ r. ⌜ r ≡ addReadable self kind f k ⌝ }
+    {
+        let load = kind == 2;
+        let flags = self.flags;
+        let present = self.present;
+        let kept = self.kept;
+        let supply = self.supply;
+        let loads = self.loads;
+        let unit = capability_of(f);
+        Sums {
+            flags: flags.plus(f, k),
+            present: present.plus(load, f),
+            kept: kept.plus(load, k),
+            supply: supply.plus(!load, unit),
+            loads: loads.plus(load, unit),
+        }
+    }
+
+    fn plus_unreadable(self) -> Sums
+        ensures { λ r. ⌜ r ≡ addUnreadable self ⌝ }
+    {
+        let flags = self.flags;
+        let present = self.present;
+        let kept = self.kept;
+        let supply = self.supply;
+        let loads = self.loads;
+        Sums {
+            flags: flags.unreadable(),
+            present,
+            kept,
+            supply,
+            loads,
+        }
+    }
+
+    // One member more.
+    pub fn plus(self, member: Sight) -> Sums
+        requires { ⌜ SmallSums (2 ^ 59) self × SmallSight member ⌝ }
+        ensures { λ r. ⌜ r ≡ addMember self member ⌝ }
+    {
+        let line = member.line;
+        let kept = member.kept;
+        match line {
+            Line::Readable(f) => self.plus_readable(member.kind, f, kept),
+            Line::Unreadable => self.plus_unreadable(),
+        }
+    }
+
+    fn basis(self) -> Basis
+        requires { ⌜ SmallSums 130000000 self ⌝ }
+        ensures { λ r. ⌜ r ≡ aggregateBasis self ⌝ }
+    {
+        let flags = self.flags;
+        let present = self.present;
+        let kept = self.kept;
+        let supply = self.supply;
+        let loads = self.loads;
+        let direction = direction_of(present.target, present.power);
+        Basis {
+            power: present.power,
+            target: kept.target,
+            up: kept.raise,
+            down: kept.lower,
+            availability: greater(supply.availability, loads.availability),
+            rate: greater(supply.rate(direction), loads.rate(direction.turned())),
+            doubtful: flags.doubtful,
+        }
+    }
+
+    // The assessment of the aggregate whose members these are.
+    pub fn assess(self) -> Assessment
+        requires { ⌜ SmallSums 130000000 self ⌝ }
+        ensures { λ r. ⌜ r ≡ sumsAssessment self ⌝ }
+    {
+        let flags = self.flags;
+        if flags.readable {
+            if flags.monitored {
+                if flags.known {
+                    return judge(self.basis());
+                }
+                return unassessed(Mark::Blank);
+            }
+            return unassessed(Mark::Off);
+        }
+        unassessed(Mark::Blank)
+    }
+}
+
+// ---- the C host's function
+
+pub fn mark_number(mark: Mark) -> u8
+    ensures { λ r. ⌜ r ≡ markNumber mark ⌝ }
+{
+    match mark {
+        Mark::Off => 0,
+        Mark::Blank => 1,
+        Mark::Clear => 2,
+        Mark::Doubt => 3,
+        Mark::Small => 4,
+        Mark::Large => 5,
+    }
+}
+
+fn second_mark(kind: u8, earlier: &[u8], later: &[u8]) -> u8
+    ensures { λ r. ⌜ r ≡ secondMark kind (now (earlier .entry)) (now (later .entry)) ⌝ }
+{
+    let kept = kept_from(telemetry::read_line(kind, false, earlier));
+    let line = telemetry::read_line(kind, false, later);
+    let assessment = assess_unit(false, Sight { kind, line, kept });
+    let mark = assessment.mark;
+    mark_number(mark)
+}
+
+// The mark, as 01 numbers it, for the second of two successive lines of a unit in no chain; 6 for an unknown kind or a line
+// that is not 40 bytes.
+#[no_mangle]
+pub extern "C" fn unit_mark(kind: u32, earlier: &[u8], later: &[u8]) -> u32
+    ensures { λ r. ⌜ r ≡ unitMarkOf kind (now (earlier .entry)) (now (later .entry)) ⌝ }
+{
+    let sized = (earlier.len() == 40) & (later.len() == 40);
+    let known = (1 <= kind) & (kind <= 3);
+    if sized & known {
+        return second_mark((kind % 256) as u8, earlier, later) as u32;
+    }
+    6
+}

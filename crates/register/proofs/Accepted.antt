@@ -1,0 +1,306 @@
+-- What an accepted register gives: the plant that it loads, and the laws of that plant's chains. Assumes nothing.
+use mathlib.Core.Path.{_≡_, refl, sym, ap, _∙_}
+use mathlib.Core.Logic.{_⊎_, inl, inr}
+use mathlib.Core.Bool.{Bool, true, false, _&&_, _||_}
+use mathlib.Core.List.{List}
+use Prim.Native.Nat.{ℕ, zero, suc, _+_, _≤_, _<_}
+use native.Mathlib.Omega.{arith}
+use borrow.Author.Tests.{leb-true, leb-false, le-leb, eqb-true, eq-eqb}
+use lib.Dec.{leb, eqb, lit≤}
+use lib.ListN.{length, getD, replicate, length-replicate}
+use Rattle.trace.specs.Sweeps.{sweep, records}
+use Rattle.trace.proofs.Sweeps.{below-or-not, every-at, every-all, length-sweep, getD-sweep}
+use Rattle.trace.proofs.Tests.{and-l, and-r}
+use Rattle.register.specs.declared.Answer.{Answer}
+use Rattle.register.specs.declared.Answer.the-variants.{Accepted}
+use Rattle.register.specs.declared.Plant.{Plant}
+use Rattle.register.specs.declared.Registered.{Registered}
+use Rattle.register.specs.Fields.{unitCount, aggregateCount, lengthsAt, fieldAt, headsPlace, kindsOf, nextsOf, headsOf, fieldsOf}
+use Rattle.register.specs.Chains.{chain, Chain, membersOf, allMembers, timesIn, metAt, chainedOf, withChains}
+use Rattle.register.specs.Rules.{longEnough, countsIn, wholeLength, rising, headerSpare, unitsSpare, headsSpare, onceAt, endsAt}
+use Rattle.register.specs.Plants.{kindsKnown, indicesIn, metOnce, restEnds, plantSound}
+use Rattle.register.specs.Registers.{visitsOf, noPlant, unless, refusedBy, acceptedAs, lengthsRise, fieldsKnown, chainedFrom, recordsFrom, registeredOf}
+use Rattle.register.proofs.Soundness.{sound-by, sound-units, sound-indices, head-least}
+use Rattle.register.proofs.Chains.{chain-whole, chain-same, units-in}
+use Rattle.register.proofs.Walks.{members-units, all-units, length-chained}
+use Rattle.register.proofs.Members.{times-one, times-two, times-somewhere, times-at-most, once-length}
+
+-- ---- the rules that it has passed
+
+pub record Passed (bytes : List ℕ) : Type 0 where
+  pub long : longEnough bytes ≡ true
+  pub counts : countsIn (unitCount bytes) (aggregateCount bytes) ≡ true
+  pub whole : wholeLength bytes ≡ true
+  pub rise : lengthsRise bytes ≡ true
+  pub known : fieldsKnown bytes ≡ true
+  pub inside : indicesIn (fieldsOf bytes) ≡ true
+  pub once : metOnce (fieldsOf bytes) ≡ true
+  pub ends : restEnds (withChains (fieldsOf bytes)) ≡ true
+
+-- a choice that answers Accepted took its test
+unless-passed : (t : Bool) (number visits : ℕ) (rest : Registered) → unless t number rest .answer ≡ Accepted visits
+    → (t ≡ true) × (rest .answer ≡ Accepted visits)
+unfolding refusedBy
+unless-passed true number visits rest e = (refl, e)
+unless-passed false number visits rest e = absurd (let z : _≡_ {A = ℕ} 0 1 = cc in omega arith)
+
+module _ (bytes : List ℕ) (visits : ℕ) (accepted : registeredOf bytes .answer ≡ Accepted visits) where
+  abbrev p : Plant
+  p = fieldsOf bytes
+
+  pub accepted-passed : Passed bytes
+  unfolding registeredOf recordsFrom chainedFrom
+  accepted-passed =
+      let a = unless-passed (longEnough bytes) 1 visits _ accepted in
+      let b = unless-passed (countsIn (unitCount bytes) (aggregateCount bytes)) 2 visits _ (a .1) in
+      let c = unless-passed (wholeLength bytes) 1 visits _ (b .1) in
+      let d = unless-passed (lengthsRise bytes) 3 visits _ (c .1) in
+      let e = unless-passed (fieldsKnown bytes) 4 visits _ (d .1) in
+      let f = unless-passed (indicesIn p) 5 visits _ (e .1) in
+      let g = unless-passed (metOnce p) 6 visits _ (f .1) in
+      let h = unless-passed (restEnds (withChains p)) 7 visits (acceptedAs p) (g .1) in
+      record { long = a .0; counts = b .0; whole = c .0; rise = d .0; known = e .0; inside = f .0; once = g .0; ends = h .0 }
+
+pub passed-accepted : (bytes : List ℕ) → Passed bytes → registeredOf bytes ≡ acceptedAs (fieldsOf bytes)
+unfolding registeredOf recordsFrom chainedFrom
+passed-accepted bytes q = rw (q .long, q .counts, q .whole, q .rise, q .known, q .inside, q .once, q .ends)
+
+-- ---- the plant of an accepted register
+
+pub record Loaded (p : Plant) : Type 0 where
+  pub sound : plantSound p ≡ true
+  pub once : metOnce p ≡ true
+  pub marked : p .chained ≡ chainedOf p
+  pub ends : restEnds p ≡ true
+  pub small : rising (p .small) ≡ true
+  pub large : rising (p .large) ≡ true
+  pub kinds : length (p .kinds) ≡ 64
+  pub next : length (p .next) ≡ 64
+  pub heads : length (p .heads) ≡ 16
+
+length-swept : (f : ℕ → ℕ) (k n : ℕ) → length (sweep f k (replicate n 0)) ≡ n
+length-swept f k n = length-sweep f k (replicate n 0) ∙ length-replicate n 0
+
+passed-loaded : (bytes : List ℕ) → Passed bytes → Loaded (withChains (fieldsOf bytes))
+unfolding withChains fieldsOf kindsOf nextsOf headsOf indicesIn kindsKnown plantSound metOnce chainedOf metAt allMembers membersOf lengthsRise fieldsKnown
+passed-loaded bytes q =
+    let p = fieldsOf bytes in
+    let kinds = and-r (headerSpare bytes) (kindsKnown p) (and-l (headerSpare bytes && kindsKnown p) (unitsSpare bytes && headsSpare bytes) (q .known)) in
+    record {
+      sound = sound-by p (q .counts) kinds (q .inside);
+      once = q .once;
+      marked = refl;
+      ends = q .ends;
+      small = and-l (rising (lengthsAt bytes 2)) (rising (lengthsAt bytes 5)) (q .rise);
+      large = and-r (rising (lengthsAt bytes 2)) (rising (lengthsAt bytes 5)) (q .rise);
+      kinds = length-swept (fieldAt bytes 16) (unitCount bytes) 64;
+      next = length-swept (fieldAt bytes 17) (unitCount bytes) 64;
+      heads = length-swept (fieldAt bytes (headsPlace bytes)) (aggregateCount bytes) 16;
+    }
+
+one-count : (a : Answer) (m n : ℕ) → a ≡ Accepted m → a ≡ Accepted n → m ≡ n
+one-count a m n p q = cc
+
+or-right : (a b : Bool) → a ≡ false → (a || b) ≡ true → b ≡ true
+or-right false b e h = h
+or-right true true e h = refl
+or-right true false e h = sym e
+
+all-marked : (p : Plant) → allMembers (withChains p) ≡ allMembers p
+unfolding withChains allMembers membersOf
+all-marked p = refl
+
+module _ (bytes : List ℕ) (visits : ℕ) (accepted : registeredOf bytes .answer ≡ Accepted visits) where
+  passed : Passed bytes
+  passed = accepted-passed bytes visits accepted
+
+  pub accepted-plant : registeredOf bytes .plant ≡ withChains (fieldsOf bytes)
+  unfolding acceptedAs
+  accepted-plant = ap (λ (r : Registered). r .plant) (passed-accepted bytes passed)
+
+  pub accepted-loaded : Loaded (registeredOf bytes .plant)
+  accepted-loaded = rw accepted-plant (passed-loaded bytes passed)
+
+  -- the visits are the number of units in chains
+  pub accepted-visits : visits ≡ length (allMembers (registeredOf bytes .plant))
+  unfolding acceptedAs
+  accepted-visits =
+      let p = fieldsOf bytes in
+      let e = passed-accepted bytes passed in
+      let counted : registeredOf bytes .answer ≡ Accepted (length (allMembers p)) = ap (λ (r : Registered). r .answer) e in
+      one-count (registeredOf bytes .answer) visits (length (allMembers p)) accepted counted
+      ∙ ap length (sym (all-marked p) ∙ ap allMembers (sym accepted-plant))
+
+less : (j k : ℕ) → (j ≡ k → ⊥) → k ≤ j → k < j
+less j k n l = go (below-or-not k j)
+  where
+    go : (k < j) ⊎ (j ≤ k) → k < j
+    go (inl q) = q
+    go (inr q) = absurd (n (omega arith))
+
+-- ---- accepted, or refused by a number from 1 to 7
+
+abbrev pub Settled : Registered → Type 0
+Settled r = ((visits : ℕ) × (r .answer ≡ Accepted visits)) ⊎ ((number : ℕ) × (((1 ≤ number) × (number ≤ 7)) × (r ≡ refusedBy number)))
+
+unless-settled : (t : Bool) (number : ℕ) (rest : Registered) → 1 ≤ number → number ≤ 7 → Settled rest → Settled (unless t number rest)
+unless-settled true number rest a b s = s
+unless-settled false number rest a b s = inr (number, ((a, b), refl))
+
+pub register-settled : (bytes : List ℕ) → Settled (registeredOf bytes)
+unfolding registeredOf recordsFrom chainedFrom acceptedAs
+register-settled bytes =
+    let p = fieldsOf bytes in
+    unless-settled (longEnough bytes) 1 _ (lit≤ tt) (lit≤ tt)
+    (unless-settled (countsIn (unitCount bytes) (aggregateCount bytes)) 2 _ (lit≤ tt) (lit≤ tt)
+    (unless-settled (wholeLength bytes) 1 _ (lit≤ tt) (lit≤ tt)
+    (unless-settled (lengthsRise bytes) 3 _ (lit≤ tt) (lit≤ tt)
+    (unless-settled (fieldsKnown bytes) 4 _ (lit≤ tt) (lit≤ tt)
+    (unless-settled (indicesIn p) 5 _ (lit≤ tt) (lit≤ tt)
+    (unless-settled (metOnce p) 6 _ (lit≤ tt) (lit≤ tt)
+    (unless-settled (restEnds (withChains p)) 7 (acceptedAs p) (lit≤ tt) (lit≤ tt) (inl (length (allMembers p), refl)))))))))
+
+pub no-plant-unsound : plantSound noPlant ≡ false
+unfolding plantSound noPlant
+no-plant-unsound = refl
+
+refused-visits : (number : ℕ) → visitsOf (refusedBy number .answer) ≡ length (allMembers (refusedBy number .plant))
+unfolding refusedBy noPlant allMembers records
+refused-visits number = refl
+
+-- the visits are the number of units in the chains of the plant that is returned; a refused register returns none
+pub visits-counted : (bytes : List ℕ) → visitsOf (registeredOf bytes .answer) ≡ length (allMembers (registeredOf bytes .plant))
+visits-counted bytes = go (register-settled bytes)
+  where
+    go : Settled (registeredOf bytes) → visitsOf (registeredOf bytes .answer) ≡ length (allMembers (registeredOf bytes .plant))
+    go (inl s) = ap visitsOf (s .1) ∙ accepted-visits bytes (s .0) (s .1)
+    go (inr s) = rw (s .1 .1) (refused-visits (s .0))
+
+-- ---- refusal 6, whatever the order of the chains: no unit twice in a chain, and none in two
+
+pub record Apart (p : Plant) : Type 0 where
+  pub within : (unit j : ℕ) → j < p .aggregates → timesIn unit (membersOf p j) ≤ 1
+  pub between : (unit j k : ℕ) → j < p .aggregates → k < p .aggregates → (j ≡ k → ⊥) → 1 ≤ timesIn unit (membersOf p j)
+      → timesIn unit (membersOf p k) ≡ 0
+
+module _ (p : Plant) (inside : indicesIn p ≡ true) where
+  -- a unit that stands there at all is from 1 to n, so the test has looked at it
+  pub all-once : metOnce p ≡ true → (unit : ℕ) → timesIn unit (allMembers p) ≤ 1
+  unfolding metOnce
+  all-once e unit = go unit (below-or-not (timesIn unit (allMembers p)) 2) (units-in (p .units) (allMembers p) (all-units p inside) unit)
+    where
+      go : (u : ℕ) → (timesIn u (allMembers p) < 2) ⊎ (2 ≤ timesIn u (allMembers p))
+          → (1 ≤ timesIn u (allMembers p) → (1 ≤ u) × (u ≤ p .units)) → timesIn u (allMembers p) ≤ 1
+      go u (inl l) f = omega arith
+      go zero (inr l) f = let g = f (omega arith) in absurd (omega (arith, g .0))
+      go (suc i) (inr l) f =
+          let g = f (omega arith) in
+          leb-true (timesIn (suc i) (allMembers p)) 1 (every-at (onceAt (allMembers p)) (p .units) e i (g .1))
+
+  two-once : metOnce p ≡ true → (unit i j : ℕ) → i < j → j < p .aggregates → timesIn unit (membersOf p i) + timesIn unit (membersOf p j) ≤ 1
+  unfolding allMembers
+  two-once e unit i j a b =
+      let h = times-two (membersOf p) unit (p .aggregates) i j a b in let o = all-once e unit in omega arith
+
+  pub once-apart : metOnce p ≡ true → Apart p
+  unfolding allMembers
+  once-apart e =
+      record {
+        within = λ unit j l. let h = times-one (membersOf p) unit (p .aggregates) j l in let o = all-once e unit in omega arith;
+        between = λ unit j k a b n m. go unit j k a b n m (below-or-not j k);
+      }
+    where
+      go : (unit j k : ℕ) → j < p .aggregates → k < p .aggregates → (j ≡ k → ⊥) → 1 ≤ timesIn unit (membersOf p j)
+          → (j < k) ⊎ (k ≤ j) → timesIn unit (membersOf p k) ≡ 0
+      go unit j k a b n m (inl l) = let h = two-once e unit j k l b in omega arith
+      go unit j k a b n m (inr l) =
+          let q : k < j = less j k n l in let h = two-once e unit k j q a in omega arith
+
+pub apart-once : (p : Plant) → Apart p → metOnce p ≡ true
+unfolding metOnce allMembers
+apart-once p a =
+    every-all (onceAt (records (membersOf p) (p .aggregates))) (p .units)
+    (λ i l. le-leb (timesIn (suc i) (records (membersOf p) (p .aggregates))) 1
+    (times-at-most (membersOf p) (suc i) (p .aggregates) (λ j h. a .within (suc i) j h)
+    (λ j k h b m. a .between (suc i) k j b (omega arith) (λ (e : k ≡ j). omega arith) m)))
+
+-- ---- the chains of a loaded plant
+
+module _ (p : Plant) (loaded : Loaded p) where
+  inside : indicesIn p ≡ true
+  inside = sound-indices p (loaded .sound)
+
+  pub loaded-apart : Apart p
+  loaded-apart = once-apart p inside (loaded .once)
+
+  -- at most n units in all chains together, and in each
+  pub all-few : length (allMembers p) ≤ p .units
+  unfolding metOnce
+  all-few = once-length (p .units) (allMembers p) (all-units p inside) (loaded .once)
+
+  module _ (j : ℕ) (l : j < p .aggregates) where
+    pub member-unit : (unit : ℕ) → 1 ≤ timesIn unit (membersOf p j) → (1 ≤ unit) × (unit ≤ p .units)
+    member-unit unit h = units-in (p .units) (membersOf p j) (members-units p inside j l) unit h
+
+    pub members-few : length (membersOf p j) ≤ p .units
+    members-few =
+        once-length (p .units) (membersOf p j) (members-units p inside j l)
+        (every-all (onceAt (membersOf p j)) (p .units)
+        (λ i b. le-leb (timesIn (suc i) (membersOf p j)) 1 (loaded-apart .within (suc i) j l)))
+
+    -- the chain is followed to its end, where next is 0
+    pub members-chain : Chain (p .next) (getD (p .heads) j 0) (membersOf p j)
+    unfolding membersOf
+    members-chain =
+        let f = members-few in
+        chain-whole (p .next) 65 (getD (p .heads) j 0) (omega (arith, sound-units p (loaded .sound)))
+
+    -- and as many steps as there are units, or more, give the same
+    pub members-steps : (steps : ℕ) → p .units ≤ steps → chain (p .next) steps (getD (p .heads) j 0) ≡ membersOf p j
+    members-steps steps h = chain-same (p .next) members-chain steps (let f = members-few in omega arith)
+
+    -- no chain is empty
+    pub members-some : 1 ≤ timesIn (getD (p .heads) j 0) (membersOf p j)
+    unfolding membersOf chain timesIn
+    members-some = go (getD (p .heads) j 0) (head-least p inside j l)
+      where
+        go : (head : ℕ) → 1 ≤ head → 1 ≤ timesIn head (chain (p .next) 65 head)
+        go zero h = absurd (omega arith)
+        go (suc i) h = rw (eq-eqb (suc i) (suc i) refl) (omega arith)
+
+  -- ---- a unit is marked exactly when some chain has it
+
+  pub marked-length : length (p .chained) ≡ 64
+  marked-length = ap length (loaded .marked) ∙ length-chained p
+
+  module _ (i : ℕ) (l : i < p .units) where
+    pub marked-at : getD (p .chained) i false ≡ leb 1 (timesIn (suc i) (allMembers p))
+    unfolding chainedOf metAt
+    marked-at =
+        ap (λ (xs : List Bool). getD xs i false) (loaded .marked)
+        ∙ getD-sweep (metAt p) (p .units) (replicate 64 false) false i l (omega (arith, length-replicate 64 false, sound-units p (loaded .sound)))
+
+    pub marked-member : getD (p .chained) i false ≡ true → (j : ℕ) × ((j < p .aggregates) × (1 ≤ timesIn (suc i) (membersOf p j)))
+    unfolding allMembers
+    marked-member e =
+        times-somewhere (membersOf p) (suc i) (p .aggregates) (leb-true 1 (timesIn (suc i) (records (membersOf p) (p .aggregates))) (sym marked-at ∙ e))
+
+    pub member-marked : (j : ℕ) → j < p .aggregates → 1 ≤ timesIn (suc i) (membersOf p j) → getD (p .chained) i false ≡ true
+    unfolding allMembers
+    member-marked j h m =
+        let t = times-one (membersOf p) (suc i) (p .aggregates) j h in
+        marked-at ∙ le-leb 1 (timesIn (suc i) (records (membersOf p) (p .aggregates))) (omega arith)
+
+    pub unmarked-member : getD (p .chained) i false ≡ false → (j : ℕ) → j < p .aggregates → timesIn (suc i) (membersOf p j) ≡ 0
+    unfolding allMembers
+    unmarked-member e j h =
+        let t = times-one (membersOf p) (suc i) (p .aggregates) j h in
+        let o = leb-false 1 (timesIn (suc i) (records (membersOf p) (p .aggregates))) (sym marked-at ∙ e) in
+        omega arith
+
+    -- a unit in no chain has next 0
+    pub unmarked-ends : getD (p .chained) i false ≡ false → getD (p .next) i 0 ≡ 0
+    unfolding restEnds
+    unmarked-ends e =
+        eqb-true (getD (p .next) i 0) 0
+        (or-right (getD (p .chained) i false) (eqb (getD (p .next) i 0) 0) e (every-at (endsAt (p .chained) (p .next)) (p .units) (loaded .ends) i l))

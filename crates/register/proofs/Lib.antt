@@ -1,0 +1,8 @@
+-- Laws of `specs/`, each shown once.
+pub mod Soundness
+pub mod Chains
+pub mod Walks
+pub mod Members
+pub mod Verdicts
+pub mod Readings
+pub mod Accepted

@@ -1,0 +1,15 @@
+-- `register::refused` meets its contract. Assumes nothing.
+use borrow.Author.Needs.{needs}
+use Rattle.register.specs.Registers.{refusedBy}
+use Rattle.register.proofs.refused.Statement.{statement}
+use Rattle.register.proofs.refused.Tie as tie
+
+no-plant-requires : tie.Need-no-plant-requires
+no-plant-requires c κs = search needs
+
+returns : tie.Need-returns
+unfolding refusedBy
+returns c = cc
+
+pub refused-spec : {M : Type 1} → statement M
+refused-spec = tie.close (tie.spec no-plant-requires returns)

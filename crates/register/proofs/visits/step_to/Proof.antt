@@ -1,0 +1,25 @@
+-- `register::visits::step_to` meets its contract. Assumes nothing.
+use borrow.Author.Needs.{needs}
+use Rattle.register.specs.Walks.{stepTo}
+use Rattle.register.proofs.visits.step_to.Statement.{statement}
+use Rattle.register.proofs.visits.step_to.Tie as tie
+
+array-read-either : tie.Need-array-read-either
+array-read-either c = search needs
+
+either-requires : tie.Need-either-requires
+either-requires c κs = search needs
+
+array-write-met : tie.Need-array-write-met
+array-write-met c = search needs
+
+add-t11 : tie.Need-add-t11
+add-t11 c = search needs
+
+returns : tie.Need-returns
+unfolding stepTo
+returns c = cc
+
+pub step-to-spec : {M : Type 1} → statement M
+step-to-spec =
+    tie.close (tie.spec array-read-either either-requires array-write-met add-t11 returns)

@@ -1,0 +1,26 @@
+-- The rules over a whole plant, 4 to 7, and the test that a plant passes whoever made it.
+use mathlib.Core.Bool.{Bool, _&&_}
+use Rattle.trace.specs.Sweeps.{every}
+use Rattle.register.specs.declared.Plant.{Plant}
+use Rattle.register.specs.Chains.{allMembers}
+use Rattle.register.specs.Rules.{countsIn, kindAt, nextAt, headAt, onceAt, endsAt}
+
+-- 4: every kind
+unfoldable pub kindsKnown : Plant → Bool
+kindsKnown p = every (kindAt (p .kinds)) (p .units)
+
+-- 5: every next and every head
+unfoldable pub indicesIn : Plant → Bool
+indicesIn p = every (nextAt (p .units) (p .next)) (p .units) && every (headAt (p .units) (p .heads)) (p .aggregates)
+
+-- 6: every unit, over the chains of all aggregates
+unfoldable pub metOnce : Plant → Bool
+metOnce p = every (onceAt (allMembers p)) (p .units)
+
+-- 7: every unit that is not marked as met
+unfoldable pub restEnds : Plant → Bool
+restEnds p = every (endsAt (p .chained) (p .next)) (p .units)
+
+-- counts, kinds and indices in range, so that chains can be followed
+unfoldable pub plantSound : Plant → Bool
+plantSound p = countsIn (p .units) (p .aggregates) && (kindsKnown p && indicesIn p)

@@ -1,0 +1,178 @@
+// Reads a register (01, "The register"): the plant and the visits along its chains, or the number of its refusal.
+
+mod header;
+mod plants;
+mod records;
+mod visits;
+
+pub use plants::plant_sound;
+ghost use mathlib.Core.Path.{_≡_};
+ghost use mathlib.Core.Bool.{true, _&&_, _||_};
+ghost use Prim.Native.Nat.{_<_};
+ghost use Rattle.register.specs.Chains.{chainedOf, withChains};
+ghost use Rattle.register.specs.Plants.{plantSound};
+ghost use Rattle.register.specs.Registers.{noPlant, refusedBy, chainedFrom, recordsFrom, registeredOf};
+ghost use Rattle.register.specs.Walks.{Headed};
+
+// Run lengths: to Not-Responding, to Pending, to declaration.
+pub struct Lengths {
+    pub not_responding: u8,
+    pub pending: u8,
+    pub declaration: u8,
+}
+
+// What a register says. A unit's index is its number less one; 0 ends a chain. Entries past the counts are 0 and false.
+pub struct Plant {
+    pub units: usize,
+    pub aggregates: usize,
+    pub small: Lengths,
+    pub large: Lengths,
+    pub kinds: [u8; 64],
+    pub next: [u8; 64],
+    pub heads: [u8; 16],
+    pub chained: [bool; 64],
+}
+
+// The visits along the chains, or the number in 01.
+pub enum Answer {
+    Accepted(u32),
+    Refused(u32),
+}
+
+// A refused register gives a plant of zeros.
+pub struct Registered {
+    pub answer: Answer,
+    pub plant: Plant,
+}
+
+pub(crate) fn both(a: bool, b: bool) -> bool
+    ensures { λ r. ⌜ r ≡ (a && b) ⌝ }
+{
+    a & b
+}
+
+pub(crate) fn either(a: bool, b: bool) -> bool
+    ensures { λ r. ⌜ r ≡ (a || b) ⌝ }
+{
+    a | b
+}
+
+pub(crate) fn wide(b: u8) -> usize
+    ensures { λ r. ⌜ (r ≡ b) × (r < 256) ⌝ }
+{
+    b as usize
+}
+
+// A plant of zeros.
+pub fn no_plant() -> Plant
+    ensures { λ r. ⌜ r ≡ noPlant ⌝ }
+{
+    let none = Lengths {
+        not_responding: 0,
+        pending: 0,
+        declaration: 0,
+    };
+    let kinds = [0u8; 64];
+    let next = [0u8; 64];
+    let heads = [0u8; 16];
+    let chained = [false; 64];
+    Plant {
+        units: 0,
+        aggregates: 0,
+        small: none,
+        large: none,
+        kinds,
+        next,
+        heads,
+        chained,
+    }
+}
+
+fn refused(number: u32) -> Registered
+    ensures { λ r. ⌜ r ≡ refusedBy number ⌝ }
+{
+    Registered {
+        answer: Answer::Refused(number),
+        plant: no_plant(),
+    }
+}
+
+fn marked(plant: Plant, met: [bool; 64]) -> Plant
+    ensures { λ r. ⌜ (met ≡ chainedOf plant → r ≡ withChains plant) ⌝ }
+{
+    let small = plant.small;
+    let large = plant.large;
+    let kinds = plant.kinds;
+    let next = plant.next;
+    let heads = plant.heads;
+    Plant {
+        units: plant.units,
+        aggregates: plant.aggregates,
+        small,
+        large,
+        kinds,
+        next,
+        heads,
+        chained: met,
+    }
+}
+
+// Refusals 6 and 7, or the plant with each unit marked that a chain met.
+fn chained_from(plant: Plant) -> Registered
+    requires { ⌜ plantSound plant ≡ true ⌝ }
+    ensures { λ r. ⌜ r ≡ chainedFrom plant ⌝ }
+{
+    let walk = visits::walk_chains(plant);
+    if walk.twice {
+        return refused(6);
+    }
+    let met = walk.met;
+    let whole = marked(plant, met);
+    let ends = plants::rest_ends(whole);
+    if !ends {
+        return refused(7);
+    }
+    Registered {
+        answer: Answer::Accepted(walk.steps),
+        plant: whole,
+    }
+}
+
+// Refusals 4 and 5, each over the whole register, and what follows.
+fn records_from(bytes: &[u8]) -> Registered
+    requires { ⌜ Headed (now bytes) ⌝ }
+    ensures { λ r. ⌜ r ≡ recordsFrom (now (bytes .entry)) ⌝ }
+{
+    let plant = records::read_fields(bytes);
+    let known = records::fields_known(bytes, plant);
+    let inside = plants::indices_in(plant);
+    if !known {
+        return refused(4);
+    }
+    if !inside {
+        return refused(5);
+    }
+    chained_from(plant)
+}
+
+// Any bytes can be sent. A refused register loads nothing.
+pub fn read_register(bytes: &[u8]) -> Registered
+    ensures { λ r. ⌜ r ≡ registeredOf (now (bytes .entry)) ⌝ }
+{
+    if bytes.len() < 16 {
+        return refused(1);
+    }
+    let counts = header::counts_known(bytes);
+    if !counts {
+        return refused(2);
+    }
+    let whole = header::whole_length(bytes);
+    if !whole {
+        return refused(1);
+    }
+    let rise = header::lengths_rise(bytes);
+    if !rise {
+        return refused(3);
+    }
+    records_from(bytes)
+}

@@ -1,0 +1,3 @@
+-- Laws of those definitions.
+pub mod Sweeps
+pub mod Tests

@@ -1,0 +1,167 @@
+-- Where a loop starts and what one turn adds, with `k + 1` as the code has it; and what holds at an index. Assumes nothing.
+use mathlib.Core.Path.{_≡_, refl, ap, _∙_}
+use mathlib.Core.Logic.{_⊎_, inl, inr}
+use mathlib.Core.Bool.{Bool, true, false, _&&_}
+use mathlib.Core.List.{List, [], _++_, append-assoc, append-nil}
+use Prim.Native.Nat.{ℕ, zero, suc, _+_, _*_, _≤_, _<_}
+use native.Mathlib.Nat.{mul-suc, eq-or-lt-of-le, le-of-suc-le-suc, le-of-eq, le-antisymm}
+use native.Mathlib.Numerals.{add-one}
+use native.Mathlib.Omega.{arith}
+use borrow.Author.Tests.{ltb-true, ltb-false}
+use lib.Dec.{ltb}
+use lib.ListN.{length, getD, set, take, drop, length-set, length-append, length-take, drop-of-length-le, List·getD-eq-default}
+use lib.Seq.{getD-set-same, getD-set-other, set-out, take-length, take-at, drop-at, drop-drop}
+use Rattle.trace.specs.Sweeps.{every, sweep, records, written}
+
+pub below-or-not : (a b : ℕ) → (a < b) ⊎ (b ≤ a)
+below-or-not a b = go (ltb a b) refl
+  where
+    go : (t : Bool) → ltb a b ≡ t → (a < b) ⊎ (b ≤ a)
+    go true e = inl (ltb-true a b e)
+    go false e = inr (ltb-false a b e)
+
+-- ---- every
+
+module _ (f : ℕ → Bool) where
+  pub every-none : true ≡ every f 0
+  unfolding every
+  every-none = refl
+
+  pub every-more : (k : ℕ) (t u : Bool) → t ≡ every f k → u ≡ f k → (t && u) ≡ every f (k + 1)
+  unfolding every
+  every-more k t u e h = rw (add-one k, e, h)
+
+  pub every-end : (k n : ℕ) (t : Bool) → k ≤ n → n ≤ k → t ≡ every f k → t ≡ every f n
+  every-end k n t a b e = e ∙ ap (every f) (le-antisymm a b)
+
+  pub every-at : (k : ℕ) → every f k ≡ true → (i : ℕ) → i < k → f i ≡ true
+  unfolding every
+  every-at zero e i l = absurd (omega arith)
+  every-at (suc k) e i l = go (every f k) (f k) refl refl e (eq-or-lt-of-le (le-of-suc-le-suc l)) (every-at k)
+    where
+      go : (a b : Bool) → every f k ≡ a → f k ≡ b → (a && b) ≡ true → (i ≡ k) ⊎ (i < k)
+          → (every f k ≡ true → (j : ℕ) → j < k → f j ≡ true) → f i ≡ true
+      go true true p q h (inl s) ih = ap f s ∙ q
+      go true true p q h (inr s) ih = ih p i s
+      go true false p q h s ih = absurd (let z : _≡_ {A = ℕ} 0 1 = cc in omega arith)
+      go false b p q h s ih = absurd (let z : _≡_ {A = ℕ} 0 1 = cc in omega arith)
+
+  -- a test that fails at one index fails
+  pub every-fails : (k i : ℕ) → i < k → f i ≡ false → every f k ≡ false
+  every-fails k i l e = go (every f k) refl
+    where
+      go : (t : Bool) → every f k ≡ t → every f k ≡ false
+      go false h = h
+      go true h = absurd (let g = every-at k h i l in let z : _≡_ {A = ℕ} 0 1 = cc in omega arith)
+
+  pub every-all : (k : ℕ) → ((i : ℕ) → i < k → f i ≡ true) → every f k ≡ true
+  unfolding every
+  every-all zero h = refl
+  every-all (suc k) h = rw (every-all k (λ i l. h i (omega arith)), h k (omega arith))
+
+-- a test that asks for less holds where the other does
+pub every-mono : (f g : ℕ → Bool) (k : ℕ) → ((i : ℕ) → i < k → f i ≡ true → g i ≡ true) → every f k ≡ true → every g k ≡ true
+every-mono f g k h e = every-all g k (λ i l. h i l (every-at f k e i l))
+
+-- ---- sweep
+
+module _ {A : Type 0} (f : ℕ → A) where
+  pub sweep-none : (xs : List A) → xs ≡ sweep f 0 xs
+  unfolding sweep
+  sweep-none xs = refl
+
+  pub sweep-more : (k : ℕ) (xs ys : List A) (a : A) → ys ≡ sweep f k xs → a ≡ f k → set ys k a ≡ sweep f (k + 1) xs
+  unfolding sweep
+  sweep-more k xs ys a e h = rw (add-one k, e, h)
+
+  pub sweep-end : (k n : ℕ) (xs ys : List A) → k ≤ n → n ≤ k → ys ≡ sweep f k xs → ys ≡ sweep f n xs
+  sweep-end k n xs ys a b e = e ∙ ap (λ (i : ℕ). sweep f i xs) (le-antisymm a b)
+
+  pub length-sweep : (k : ℕ) (xs : List A) → length (sweep f k xs) ≡ length xs
+  unfolding sweep
+  length-sweep zero xs = refl
+  length-sweep (suc k) xs = length-set (sweep f k xs) k (f k) ∙ length-sweep k xs
+
+  -- what every new entry and the default have, each entry below k has, however long the list is
+  pub sweep-holds : (P : A → Type 0) (k : ℕ) (xs : List A) (d : A) (i : ℕ) → i < k → P (f i) → P d → P (getD (sweep f k xs) i d)
+  unfolding sweep
+  sweep-holds P zero xs d i l p q = absurd (omega arith)
+  sweep-holds P (suc k) xs d i l p q =
+      go (eq-or-lt-of-le (le-of-suc-le-suc l)) (below-or-not k (length (sweep f k xs))) (λ b. sweep-holds P k xs d i b p q)
+    where
+      go : (i ≡ k) ⊎ (i < k) → (k < length (sweep f k xs)) ⊎ (length (sweep f k xs) ≤ k) → (i < k → P (getD (sweep f k xs) i d))
+          → P (getD (set (sweep f k xs) k (f k)) i d)
+      go (inl e) (inl s) ih = rw (e, getD-set-same (sweep f k xs) k (f k) d s) (rw e at p)
+      go (inl e) (inr s) ih = rw (e, set-out (sweep f k xs) k (f k) s, List·getD-eq-default (sweep f k xs) d s) q
+      go (inr b) s ih = let n : i ≡ k → ⊥ = (λ (e : i ≡ k). omega arith) in rw (getD-set-other (sweep f k xs) k i (f k) d n) (ih b)
+
+  -- within the list, it is the new entry
+  pub getD-sweep : (k : ℕ) (xs : List A) (d : A) (i : ℕ) → i < k → k ≤ length xs → getD (sweep f k xs) i d ≡ f i
+  unfolding sweep
+  getD-sweep zero xs d i l h = absurd (omega arith)
+  getD-sweep (suc k) xs d i l h = go (eq-or-lt-of-le (le-of-suc-le-suc l)) (λ b. getD-sweep k xs d i b (omega arith))
+    where
+      go : (i ≡ k) ⊎ (i < k) → (i < k → getD (sweep f k xs) i d ≡ f i) → getD (set (sweep f k xs) k (f k)) i d ≡ f i
+      go (inl e) ih = rw e (getD-set-same (sweep f k xs) k (f k) d (omega (arith, length-sweep k xs)))
+      go (inr b) ih = let n : i ≡ k → ⊥ = (λ (e : i ≡ k). omega arith) in getD-set-other (sweep f k xs) k i (f k) d n ∙ ih b
+
+  -- and from k on, it is the old one
+  pub getD-sweep-past : (k : ℕ) (xs : List A) (d : A) (i : ℕ) → k ≤ i → getD (sweep f k xs) i d ≡ getD xs i d
+  unfolding sweep
+  getD-sweep-past zero xs d i l = refl
+  getD-sweep-past (suc k) xs d i l =
+      let n : i ≡ k → ⊥ = (λ (e : i ≡ k). omega arith) in
+      getD-set-other (sweep f k xs) k i (f k) d n ∙ getD-sweep-past k xs d i (omega arith)
+
+-- ---- records
+
+module _ (f : ℕ → List ℕ) where
+  pub records-none : records f 0 ≡ []
+  unfolding records
+  records-none = refl
+
+  pub records-more : (k : ℕ) → records f (k + 1) ≡ records f k ++ f k
+  unfolding records
+  records-more k = rw (add-one k)
+
+-- ---- records of one size
+
+module _ (f : ℕ → List ℕ) (size : ℕ) (sized : (i : ℕ) → length (f i) ≡ size) where
+  pub length-records : (k : ℕ) → length (records f k) ≡ size * k
+  unfolding records
+  length-records zero = omega arith
+  length-records (suc k) = length-append (records f k) (f k) ∙ rw (length-records k, sized k, mul-suc) refl
+
+  -- where the loop starts, after one record more, and where all are written
+  pub written-none : (old : List ℕ) → old ≡ written f size 0 old
+  unfolding records
+  written-none old = let z : size * 0 ≡ 0 = omega arith in rw z
+
+  pub written-more : (k : ℕ) (old xs r : List ℕ) → xs ≡ written f size k old → r ≡ f k
+      → take (size * k) xs ++ (r ++ drop (size * k + size) xs) ≡ written f size (k + 1) old
+  unfolding records
+  written-more k old xs r e h =
+      let len = length-records k in
+      let rest = drop (size * k) old in
+      rw (
+        e,
+        h,
+        add-one k,
+        mul-suc size k,
+        take-at (records f k) rest (size * k) len,
+        ← drop-drop size (size * k) (records f k ++ rest),
+        drop-at (records f k) rest (size * k) len,
+        drop-drop size (size * k) old,
+        append-assoc (records f k) (f k) (drop (size * k + size) old),
+      )
+
+  pub written-all : (k : ℕ) (old : List ℕ) → length old ≡ size * k → written f size k old ≡ records f k
+  written-all k old e = rw (drop-of-length-le old (le-of-eq e), append-nil)
+
+-- a part of k bytes from `at` on, over which as many were copied
+pub pasted : (xs bytes part : List ℕ) (at k n : ℕ) → k ≡ n → length bytes ≡ n
+    → part ≡ take (length bytes) bytes ++ drop (length bytes) (take k (drop at xs))
+    → take at xs ++ (part ++ drop k (drop at xs)) ≡ take at xs ++ (bytes ++ drop (at + n) xs)
+pasted xs bytes part at k n e l h =
+    let short : length (take k (drop at xs)) ≤ length bytes = simp length-take (omega arith) in
+    rw (h, take-length bytes, drop-of-length-le (take k (drop at xs)) short, append-nil bytes, e, drop-drop n at xs)
