@@ -1,14 +1,13 @@
 -- The table holds. Assumes nothing.
 use mathlib.Core.Path.{_≡_, refl}
-use mathlib.Core.Bool.{true, false}
+use mathlib.Core.Bool.{false}
 use Prim.Native.Nat.{ℕ}
 use lib.IntN.{ℤ, pos, negsuc}
-use Rattle.telemetry.specs.Kilowatts.{kilowattsOf}
 use Rattle.telemetry.specs.Lines.{powerOf}
 use Rattle.telemetry.specs.declared.Fields.{Fields}
 use Rattle.telemetry.specs.declared.Reading.the-variants.{Good}
 use Rattle.telemetry.proofs.Rows.{rows}
-use Rattle.marks.specs.Triggers.{directionOf, rateOf, capabilityOf, triggerOf, smallTrigger, largeTrigger}
+use Rattle.marks.specs.Triggers.{directionOf, rateOf, capabilityOf, triggerOf}
 use Rattle.marks.specs.Errors.{errorOf, exceeds}
 use Rattle.marks.specs.Assessments.{kilowattsIn, isMissing, isDoubtful, isKnown, markOf, judged, upOf, downOf, unitBasis, readableAssessment, unitAssessment}
 use Rattle.marks.specs.Table.{Triggers, Assessed, Table, keptRow}

@@ -1,16 +1,15 @@
 -- How large the numbers of lines, sums, bases and errors are. Assumes nothing.
-use mathlib.Core.Path.{_≡_, refl, sym, _∙_}
+use mathlib.Core.Path.{_≡_, refl}
 use mathlib.Core.Bool.{Bool, true, false, cond, not, _&&_}
 use mathlib.Core.List.{List}
-use Prim.Native.Nat.{ℕ, _+_, _*_, _≤_, min, max}
+use Prim.Native.Nat.{ℕ, _+_, _≤_}
 use native.Mathlib.Nat.{le-trans}
 use native.Mathlib.Omega.{arith}
 use borrow.Author.Tests.{leb-true, le-leb}
 use lib.Dec.{leb, eqb, lit≤}
-use lib.IntN.{ℤ, pos, natAbs, negℤ, _+ℤ_, _-ℤ_}
+use lib.IntN.{ℤ, pos, natAbs, _+ℤ_, _-ℤ_}
 use lib.Signed.{ltZ}
 use Rattle.signed.proofs.Sizes.{size-plus, size-minus, size-neg}
-use Rattle.telemetry.specs.Kilowatts.{kilowattsOf}
 use Rattle.telemetry.specs.Lines.{powerOf, readable, fieldsOf, lineOf}
 use Rattle.telemetry.specs.declared.Fields.{Fields}
 use Rattle.telemetry.specs.declared.Line.{Line}
@@ -23,16 +22,14 @@ use Rattle.telemetry.proofs.Clauses.{target-small, availability-small, raise-sm
 use Rattle.marks.specs.Triggers.{directionOf, opposite, rateOf, capabilityOf, addCapability}
 use Rattle.marks.specs.KeptLines.{nothingKept, keptFrom, keptBounded}
 use Rattle.marks.specs.Errors.{overOf, underOf, errorOf}
-use Rattle.marks.specs.Assessments.{kilowattsIn, upOf, downOf, unitBasis}
+use Rattle.marks.specs.Assessments.{kilowattsIn, unitBasis}
 use Rattle.marks.specs.Aggregates.{isLoad, addSigned, addPresent, addKept, addReadable, addUnreadable, addLine, addMember, noSums, wayOf, aggregateBasis}
-use Rattle.marks.specs.Bounds.{SmallFields, SmallLine, SmallKept, SmallSight, SmallCapability, SmallPresent, SmallKeptSums, SmallSums, SmallBasis}
+use Rattle.marks.specs.Bounds.{SmallFields, SmallLine, SmallKept, SmallSight, SmallCapability, SmallSums, SmallBasis}
 use Rattle.marks.specs.declared.Direction.{Direction}
 use Rattle.marks.specs.declared.Direction.the-variants.{Up, Down, Level}
 use Rattle.marks.specs.declared.Capability.{Capability}
 use Rattle.marks.specs.declared.Kept.{Kept}
 use Rattle.marks.specs.declared.Sight.{Sight}
-use Rattle.marks.specs.declared.Present.{Present}
-use Rattle.marks.specs.declared.KeptSums.{KeptSums}
 use Rattle.marks.specs.declared.Sums.{Sums}
 use Rattle.marks.specs.declared.Basis.{Basis}
 

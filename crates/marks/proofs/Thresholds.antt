@@ -1,7 +1,5 @@
 -- Facts on triggers, shared by units and aggregates. Assumes nothing.
-use mathlib.Core.Path.{_≡_}
-use Prim.Native.Nat.{ℕ, _*_, _≤_, min, max}
-use native.Mathlib.Nat.{mul-le-mul-right}
+use Prim.Native.Nat.{ℕ, _≤_}
 use native.Mathlib.Omega.{arith}
 use Rattle.marks.specs.Triggers.{triggerOf, smallTrigger, largeTrigger}
 

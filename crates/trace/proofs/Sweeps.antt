@@ -1,17 +1,18 @@
 -- Where a loop starts and what one turn adds, with `k + 1` as the code has it; and what holds at an index. Assumes nothing.
-use mathlib.Core.Path.{_≡_, refl, ap, _∙_}
+use mathlib.Core.Path.{_≡_, refl, ap, ap₂, _∙_}
 use mathlib.Core.Logic.{_⊎_, inl, inr}
-use mathlib.Core.Bool.{Bool, true, false, _&&_}
+use mathlib.Core.Bool.{Bool, true, false, cond, _&&_}
 use mathlib.Core.List.{List, [], _++_, append-assoc, append-nil}
 use Prim.Native.Nat.{ℕ, zero, suc, _+_, _*_, _≤_, _<_}
-use native.Mathlib.Nat.{mul-suc, eq-or-lt-of-le, le-of-suc-le-suc, le-of-eq, le-antisymm}
+use native.Mathlib.Nat.{mul-suc, mul-le-mul-left, eq-or-lt-of-le, le-of-suc-le-suc, le-of-eq, le-antisymm}
 use native.Mathlib.Numerals.{add-one}
 use native.Mathlib.Omega.{arith}
-use borrow.Author.Tests.{ltb-true, ltb-false}
-use lib.Dec.{ltb}
-use lib.ListN.{length, getD, set, take, drop, length-set, length-append, length-take, drop-of-length-le, List·getD-eq-default}
-use lib.Seq.{getD-set-same, getD-set-other, set-out, take-length, take-at, drop-at, drop-drop}
+use borrow.Author.Tests.{ltb-true, ltb-false, lt-ltb, le-ltb, eqb-true, eqb-false, eq-eqb, ne-eqb}
+use lib.Dec.{ltb, eqb}
+use lib.ListN.{length, getD, set, take, drop, replicate, length-replicate, getD-replicate, length-set, length-append, length-take, length-drop, drop-of-length-le, List·getD-eq-default}
+use lib.Seq.{getD-set-same, getD-set-other, set-out, take-length, take-all, take-at, take-append-le, drop-at, drop-append-le, drop-drop}
 use Rattle.trace.specs.Sweeps.{every, sweep, records, written}
+use Rattle.trace.specs.Lists.{updated, below}
 
 pub below-or-not : (a b : ℕ) → (a < b) ⊎ (b ≤ a)
 below-or-not a b = go (ltb a b) refl
@@ -113,6 +114,43 @@ module _ {A : Type 0} (f : ℕ → A) where
       let n : i ≡ k → ⊥ = (λ (e : i ≡ k). omega arith) in
       getD-set-other (sweep f k xs) k i (f k) d n ∙ getD-sweep-past k xs d i (omega arith)
 
+-- ---- a list read as a function of the place
+
+module _ {A : Type 0} where
+  pub updated-same : (i : ℕ) (a : A) (f : ℕ → A) → updated i a f i ≡ a
+  updated-same i a f = rw (eq-eqb i i refl)
+
+  pub updated-other : (i j : ℕ) (a : A) (f : ℕ → A) → (j ≡ i → ⊥) → updated i a f j ≡ f j
+  updated-other i j a f n = rw (ne-eqb j i n)
+
+  pub below-inside : (k i : ℕ) (f g : ℕ → A) → i < k → below k f g i ≡ f i
+  below-inside k i f g l = rw (lt-ltb i k l)
+
+  pub below-outside : (k i : ℕ) (f g : ℕ → A) → k ≤ i → below k f g i ≡ g i
+  below-outside k i f g l = rw (le-ltb i k l)
+
+  pub sweep-below : (f : ℕ → A) (k : ℕ) (xs : List A) (d : A) → k ≤ length xs → (i : ℕ) → getD (sweep f k xs) i d ≡ below k f (λ j. getD xs j d) i
+  sweep-below f k xs d h i = go (below-or-not i k)
+    where
+      go : (i < k) ⊎ (k ≤ i) → getD (sweep f k xs) i d ≡ below k f (λ j. getD xs j d) i
+      go (inl l) = rw (lt-ltb i k l) (getD-sweep f k xs d i l h)
+      go (inr l) = rw (le-ltb i k l) (getD-sweep-past f k xs d i l)
+
+  pub set-updated : (xs : List A) (i : ℕ) (a d : A) → i < length xs → (j : ℕ) → getD (set xs i a) j d ≡ updated i a (λ k. getD xs k d) j
+  set-updated xs i a d h j = go (eqb j i) refl
+    where
+      go : (t : Bool) → eqb j i ≡ t → getD (set xs i a) j d ≡ cond t a (getD xs j d)
+      go true e = rw (eqb-true j i e) (getD-set-same xs i a d h)
+      go false e = getD-set-other xs i j a d (eqb-false j i e)
+
+  -- one value everywhere, beyond the end too
+  pub replicate-same : (k : ℕ) (a : A) (i : ℕ) → getD (replicate k a) i a ≡ a
+  replicate-same k a i = go (below-or-not i k)
+    where
+      go : (i < k) ⊎ (k ≤ i) → getD (replicate k a) i a ≡ a
+      go (inl l) = getD-replicate k i a a l
+      go (inr l) = List·getD-eq-default (replicate k a) a (rw (length-replicate k a) l)
+
 -- ---- records
 
 module _ (f : ℕ → List ℕ) where
@@ -123,6 +161,16 @@ module _ (f : ℕ → List ℕ) where
   pub records-more : (k : ℕ) → records f (k + 1) ≡ records f k ++ f k
   unfolding records
   records-more k = rw (add-one k)
+
+pub sweep-same : {A : Type 0} (f g : ℕ → A) (k : ℕ) (xs : List A) → ((i : ℕ) → i < k → f i ≡ g i) → sweep f k xs ≡ sweep g k xs
+unfolding sweep
+sweep-same f g zero xs h = refl
+sweep-same f g (suc k) xs h = rw (sweep-same f g k xs (λ i l. h i (omega arith)), h k (omega arith))
+
+pub records-same : (f g : ℕ → List ℕ) (k : ℕ) → ((i : ℕ) → i < k → f i ≡ g i) → records f k ≡ records g k
+unfolding records
+records-same f g zero h = refl
+records-same f g (suc k) h = ap₂ (_++_ {A = ℕ}) (records-same f g k (λ i l. h i (omega arith))) (h k (omega arith))
 
 -- ---- records of one size
 
@@ -154,6 +202,26 @@ module _ (f : ℕ → List ℕ) (size : ℕ) (sized : (i : ℕ) → length (f i)
         drop-drop size (size * k) old,
         append-assoc (records f k) (f k) (drop (size * k + size) old),
       )
+
+  -- what stands at record i
+  pub record-at : (k i : ℕ) → i < k → take size (drop (size * i) (records f k)) ≡ f i
+  unfolding records
+  record-at zero i l = absurd (omega arith)
+  record-at (suc k) i l = go (eq-or-lt-of-le (le-of-suc-le-suc l)) (record-at k i)
+    where
+      len : length (records f k) ≡ size * k
+      len = length-records k
+
+      go : (i ≡ k) ⊎ (i < k) → (i < k → take size (drop (size * i) (records f k)) ≡ f i)
+          → take size (drop (size * i) (records f k ++ f k)) ≡ f i
+      go (inl e) ih = rw (e, drop-at (records f k) (f k) (size * k) len) (take-all size (f k) (omega (arith, sized k)))
+      go (inr b) ih =
+          let fits : size * i + size ≤ size * k = rw mul-suc at (mul-le-mul-left size b) in
+          rw (
+            drop-append-le (size * i) (records f k) (f k) (omega (arith, len)),
+            take-append-le size (drop (size * i) (records f k)) (f k) (simp length-drop (omega (arith, len))),
+          )
+          (ih b)
 
   pub written-all : (k : ℕ) (old : List ℕ) → length old ≡ size * k → written f size k old ≡ records f k
   written-all k old e = rw (drop-of-length-le old (le-of-eq e), append-nil)

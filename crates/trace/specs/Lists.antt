@@ -1,6 +1,6 @@
 -- Lists of calls, whatever a call is: what a machine makes of them, lists that are alike, and what has held since an event.
 use mathlib.Core.Path.{_≡_}
-use mathlib.Core.Bool.{Bool, cond}
+use mathlib.Core.Bool.{cond}
 use mathlib.Core.List.{List, [], _∷_, _++_}
 use Prim.Native.Nat.{ℕ}
 use lib.Dec.{eqb, ltb}

@@ -1,13 +1,10 @@
 -- `marks::allowed_rate` meets its contract. Assumes nothing.
 use borrow.Author.Needs.{needs}
 use native.Mathlib.Omega.{arith}
-use mathlib.Core.Path.{_≡_, sym, ap, _∙_}
-use mir.Syntax.{w32, w64}
+use mathlib.Core.Path.{_≡_, _∙_}
+use mir.Syntax.{w64}
 use mir.Val.{toZ, ofZ}
-use mir.ValLaws.{toZ-ofZ}
-use native.Mathlib.Nat.{le-refl}
-use lib.IntN.{natAbs}
-use Rattle.signed.proofs.Sizes.{held32, held64, size32}
+use Rattle.signed.proofs.Sizes.{held32, held64}
 use Rattle.telemetry.specs.Kilowatts.{kilowattsOf}
 use Rattle.telemetry.proofs.Floats.{kilowatts-size}
 use Rattle.marks.proofs.allowed_rate.Statement.{statement}

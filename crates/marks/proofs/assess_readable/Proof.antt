@@ -20,7 +20,7 @@ unit-basis-requires : tie.Need-unit-basis-requires
 unit-basis-requires c κs = search needs
 
 judge-requires : tie.Need-judge-requires
-judge-requires c κs = rw (c .unit-basis .ensures) (unit-small ((c .before .before .before .before .before) .args .kind) ((c .before .before .before .before .before) .args .f) ((c .before .before .before .before .before) .args .k) ((c .before .before .before .before .before) .pre .0) ((c .before .before .before .before .before) .pre .1))
+judge-requires c κs = rw (c .unit-basis .ensures) (unit-small (c .before .before .before .before .before .args .kind) (c .before .before .before .before .before .args .f) (c .before .before .before .before .before .args .k) (c .before .before .before .before .before .pre .0) (c .before .before .before .before .before .pre .1))
 
 returns-2 : tie.Need-returns-2
 unfolding readableAssessment

@@ -10,7 +10,7 @@ enum-known-line : tie.Need-enum-known-line
 enum-known-line c = search needs
 
 assess-readable-requires : tie.Need-assess-readable-requires
-assess-readable-requires c κs = (subst SmallLine (c .before .line .given .1) ((c .before .before .before .before) .pre .line), (c .before .before .before .before) .pre .kept)
+assess-readable-requires c κs = (subst SmallLine (c .before .line .given .1) (c .before .before .before .before .pre .line), c .before .before .before .before .pre .kept)
 
 enum-told : tie.Need-enum-told
 enum-told c = search needs

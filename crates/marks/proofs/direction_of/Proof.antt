@@ -1,9 +1,8 @@
 -- `marks::direction_of` meets its contract. Assumes nothing.
-use mathlib.Core.Path.{_≡_, sym, ap, _∙_}
-use mir.Syntax.{w32, w64}
+use mathlib.Core.Path.{_≡_}
+use mir.Syntax.{w64}
 use mir.Val.{toZ, ofZ}
 use mir.ValLaws.{toZ-ofZ}
-use lib.Signed.{ltZ}
 use Rattle.marks.specs.Triggers.{directionOf}
 use Rattle.marks.proofs.direction_of.Statement.{statement}
 use Rattle.marks.proofs.direction_of.Tie as tie

@@ -1,13 +1,10 @@
 -- `marks::judge` meets its contract. Assumes nothing.
 use borrow.Author.Needs.{needs}
 use native.Mathlib.Omega.{arith}
-use mathlib.Core.Path.{_≡_, sym, ap, _∙_}
-use mir.Syntax.{w32, w64}
+use mathlib.Core.Path.{_≡_, _∙_}
+use mir.Syntax.{w64}
 use mir.Val.{toZ, ofZ}
-use mir.ValLaws.{toZ-ofZ}
-use Prim.Native.Nat.{_≤_}
 use lib.Dec.{lit<}
-use lib.IntN.{natAbs}
 use Rattle.signed.proofs.Sizes.{held32, held64, held-size}
 use Rattle.marks.proofs.Small.{error-size}
 use Rattle.marks.proofs.Thresholds.{small-bounded}
@@ -16,7 +13,7 @@ use Rattle.marks.specs.Assessments.{judged}
 use Rattle.marks.proofs.judge.Statement.{statement}
 use Rattle.marks.proofs.judge.Tie as tie
 
-error-is : (c : tie.After-error-of) → toZ w64 (ofZ w64 (c .error-of .result)) ≡ errorOf ((c .before) .args .b)
+error-is : (c : tie.After-error-of) → toZ w64 (ofZ w64 (c .error-of .result)) ≡ errorOf (c .before .args .b)
 error-is c = held64 (c .error-of .result) (c .error-of .ok) ∙ c .error-of .ensures
 
 power-is : (c : tie.Start) → toZ w64 (ofZ w64 (c .args .b .power)) ≡ c .args .b .power
@@ -32,16 +29,16 @@ trigger-of-requires-2 : tie.Need-trigger-of-requires-2
 trigger-of-requires-2 c κs = search needs
 
 mark-of-requires : tie.Need-mark-of-requires
-mark-of-requires c κs = rw (error-is (c .before .before)) (omega (arith, error-size ((c .before .before .before) .args .b) ((c .before .before .before) .pre)))
+mark-of-requires c κs = rw (error-is (c .before .before)) (omega (arith, error-size (c .before .before .before .args .b) (c .before .before .before .pre)))
 
 narrowed-requires : tie.Need-narrowed-requires
-narrowed-requires c κs = rw (error-is (c .before .before .before)) (omega (arith, error-size ((c .before .before .before .before) .args .b) ((c .before .before .before .before) .pre)))
+narrowed-requires c κs = rw (error-is (c .before .before .before)) (omega (arith, error-size (c .before .before .before .before .args .b) (c .before .before .before .before .pre)))
 
 cast-t7 : tie.Need-cast-t7
-cast-t7 c = omega (arith, c .before .before .before .trigger-of .ensures, small-bounded ((c .before .before .before .before .before) .args .b .availability) ((c .before .before .before .before .before) .args .b .rate) ((c .before .before .before .before .before) .pre .availability))
+cast-t7 c = omega (arith, c .before .before .before .trigger-of .ensures, small-bounded (c .before .before .before .before .before .args .b .availability) (c .before .before .before .before .before .args .b .rate) (c .before .before .before .before .before .pre .availability))
 
 narrowed-requires-2 : tie.Need-narrowed-requires-2
-narrowed-requires-2 c κs = rw (power-is (c .before .before .before .before .before .before)) (omega (arith, (c .before .before .before .before .before .before) .pre .power))
+narrowed-requires-2 c κs = rw (power-is (c .before .before .before .before .before .before)) (omega (arith, c .before .before .before .before .before .before .pre .power))
 
 returns : tie.Need-returns
 unfolding judged

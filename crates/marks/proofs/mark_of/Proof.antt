@@ -1,7 +1,7 @@
 -- `marks::mark_of` meets its contract. Assumes nothing.
 use borrow.Author.Needs.{needs}
-use mathlib.Core.Path.{_≡_, sym, ap, _∙_}
-use mir.Syntax.{w32, w64}
+use mathlib.Core.Path.{_≡_, sym, _∙_}
+use mir.Syntax.{w64}
 use mir.Val.{toZ, ofZ}
 use mir.ValLaws.{toZ-ofZ}
 use Rattle.marks.specs.Errors.{exceeds}
@@ -12,10 +12,10 @@ use Rattle.marks.proofs.mark_of.Tie as tie
 error-is : (c : tie.Start) → toZ w64 (ofZ w64 (c .args .error)) ≡ c .args .error
 error-is c = toZ-ofZ w64 (c .args .error) (c .fits .error)
 
-small-is : (c : tie.After-over-trigger) → c .over-trigger .result ≡ exceeds ((c .before) .args .error) ((c .before) .args .small)
+small-is : (c : tie.After-over-trigger) → c .over-trigger .result ≡ exceeds (c .before .args .error) (c .before .args .small)
 small-is c = cc (error-is (c .before))
 
-large-is : (c : tie.After-over-trigger2) → c .over-trigger2 .result ≡ exceeds ((c .before .before .before .before) .args .error) ((c .before .before .before .before) .args .large)
+large-is : (c : tie.After-over-trigger2) → c .over-trigger2 .result ≡ exceeds (c .before .before .before .before .args .error) (c .before .before .before .before .args .large)
 large-is c = cc (error-is (c .before .before .before .before))
 
 over-trigger-requires : tie.Need-over-trigger-requires

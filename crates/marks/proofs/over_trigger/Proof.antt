@@ -1,7 +1,7 @@
 -- `marks::over_trigger` meets its contract. Assumes nothing.
 use native.Mathlib.Omega.{arith}
-use mathlib.Core.Path.{_≡_, sym, ap, _∙_}
-use mir.Syntax.{w32, w64}
+use mathlib.Core.Path.{_≡_, ap, _∙_}
+use mir.Syntax.{w64}
 use mir.Val.{toZ, ofZ}
 use mir.ValLaws.{toZ-ofZ}
 use Prim.Native.Nat.{ℕ, _*_}

@@ -1,6 +1,5 @@
 -- `marks::second_mark` meets its contract. Assumes nothing.
 use borrow.Author.Needs.{needs}
-use mathlib.Core.Path.{sym, ap, _∙_}
 use mathlib.Core.Bool.{false}
 use Rattle.marks.proofs.Small.{line-small, kept-small}
 use Rattle.marks.specs.Hosts.{secondMark}
@@ -18,8 +17,8 @@ read-line-requires-2 c κs = search needs
 
 assess-unit-requires : tie.Need-assess-unit-requires
 assess-unit-requires c κs = record {
-  line = rw (c .read-line2 .ensures) (line-small ((c .before .before .before .before .before) .args .kind) false ((c .before .before .before .before .before) .args .later .now));
-  kept = rw (c .before .kept-from .ensures, c .before .before .read-line .ensures) (kept-small _ (line-small ((c .before .before .before .before .before) .args .kind) false ((c .before .before .before .before .before) .args .earlier .now)));
+  line = rw (c .read-line2 .ensures) (line-small (c .before .before .before .before .before .args .kind) false (c .before .before .before .before .before .args .later .now));
+  kept = rw (c .before .kept-from .ensures, c .before .before .read-line .ensures) (kept-small _ (line-small (c .before .before .before .before .before .args .kind) false (c .before .before .before .before .before .args .earlier .now)));
 }
 
 mark-number-requires : tie.Need-mark-number-requires

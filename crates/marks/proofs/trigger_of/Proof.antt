@@ -1,7 +1,6 @@
 -- `marks::trigger_of` meets its contract. Assumes nothing.
 use borrow.Author.Needs.{needs}
 use native.Mathlib.Omega.{arith}
-use Prim.Native.Nat.{_*_, _≤_}
 use native.Mathlib.Nat.{mul-le-mul}
 use Rattle.marks.specs.Triggers.{triggerOf}
 use Rattle.marks.proofs.trigger_of.Statement.{statement}

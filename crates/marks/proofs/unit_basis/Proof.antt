@@ -1,9 +1,5 @@
 -- `marks::unit_basis` meets its contract. Assumes nothing.
 use borrow.Author.Needs.{needs}
-use mathlib.Core.Path.{_≡_, sym, ap, _∙_}
-use mir.Syntax.{w32, w64}
-use mir.Val.{toZ, ofZ}
-use mir.ValLaws.{toZ-ofZ}
 use Rattle.signed.proofs.Sizes.{held32, held64}
 use Rattle.marks.specs.Assessments.{unitBasis}
 use Rattle.marks.proofs.unit_basis.Statement.{statement}
@@ -48,8 +44,8 @@ is-doubtful-requires c κs = search needs
 returns : tie.Need-returns
 unfolding unitBasis
 returns c = cc (
-  held32 ((c .before .before .before .before .before .before .before .before .before .before .before .before .before .before) .args .f .target) (c .before .before .before .before .before .before .before .before .before .before .struct-told .given .1 .1 .0 .1),
-  held32 ((c .before .before .before .before .before .before .before .before .before .before .before .before .before .before) .args .k .target) (c .before .before .before .before .before .before .before .struct-told2 .given .1 .0 .1),
+  held32 (c .before .before .before .before .before .before .before .before .before .before .before .before .before .before .args .f .target) (c .before .before .before .before .before .before .before .before .before .before .struct-told .given .1 .1 .0 .1),
+  held32 (c .before .before .before .before .before .before .before .before .before .before .before .before .before .before .args .k .target) (c .before .before .before .before .before .before .before .struct-told2 .given .1 .0 .1),
   held32 (c .before .before .before .before .before .before .before .before .before .before .before .before .power-in .result) (c .before .before .before .before .before .before .before .before .before .before .before .before .power-in .ok),
   held64 (c .before .before .before .before .before .before .before .before .before .before .before .widened .result) (c .before .before .before .before .before .before .before .before .before .before .before .widened .ok),
   held64 (c .before .before .before .before .before .before .before .before .before .widened2 .result) (c .before .before .before .before .before .before .before .before .before .widened2 .ok),

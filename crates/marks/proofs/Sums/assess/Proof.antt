@@ -12,7 +12,7 @@ basis-requires : tie.Need-basis-requires
 basis-requires c κs = search needs
 
 judge-requires : tie.Need-judge-requires
-judge-requires c κs = rw (c .basis .ensures) (aggregate-small ((c .before .before .before .before .before) .args .self) ((c .before .before .before .before .before) .pre))
+judge-requires c κs = rw (c .basis .ensures) (aggregate-small (c .before .before .before .before .before .args .self) (c .before .before .before .before .before .pre))
 
 returns : tie.Need-returns
 unfolding sumsAssessment
@@ -23,21 +23,21 @@ unassessed-requires c κs = search needs
 
 returns-2 : tie.Need-returns-2
 unfolding sumsAssessment
-returns-2 c = c .unassessed .ensures ∙ sym (unknown _ _ _ (aggregateBasis ((c .before .before .before .before .before) .args .self)) (c .before .before .before .if1 .taken) (c .before .before .if2 .taken) (c .before .if3 .left))
+returns-2 c = c .unassessed .ensures ∙ sym (unknown _ _ _ (aggregateBasis (c .before .before .before .before .before .args .self)) (c .before .before .before .if1 .taken) (c .before .before .if2 .taken) (c .before .if3 .left))
 
 unassessed-requires-2 : tie.Need-unassessed-requires-2
 unassessed-requires-2 c κs = search needs
 
 returns-3 : tie.Need-returns-3
 unfolding sumsAssessment
-returns-3 c = c .unassessed2 .ensures ∙ sym (unmonitored _ _ ((c .before .before .before .before) .args .self .flags .known) (aggregateBasis ((c .before .before .before .before) .args .self)) (c .before .before .if1 .taken) (c .before .if2 .left))
+returns-3 c = c .unassessed2 .ensures ∙ sym (unmonitored _ _ (c .before .before .before .before .args .self .flags .known) (aggregateBasis (c .before .before .before .before .args .self)) (c .before .before .if1 .taken) (c .before .if2 .left))
 
 unassessed-requires-3 : tie.Need-unassessed-requires-3
 unassessed-requires-3 c κs = search needs
 
 returns-4 : tie.Need-returns-4
 unfolding sumsAssessment
-returns-4 c = c .unassessed3 .ensures ∙ sym (unreadable _ ((c .before .before .before) .args .self .flags .monitored) ((c .before .before .before) .args .self .flags .known) (aggregateBasis ((c .before .before .before) .args .self)) (c .before .if1 .left))
+returns-4 c = c .unassessed3 .ensures ∙ sym (unreadable _ (c .before .before .before .args .self .flags .monitored) (c .before .before .before .args .self .flags .known) (aggregateBasis (c .before .before .before .args .self)) (c .before .if1 .left))
 
 pub assess-spec : {M : Type 1} → statement M
 assess-spec =

@@ -1,9 +1,8 @@
 -- `marks::Sums::basis` meets its contract. Assumes nothing.
 use borrow.Author.Needs.{needs}
-use mathlib.Core.Path.{_≡_, sym, ap, _∙_}
-use mir.Syntax.{w32, w64}
+use mathlib.Core.Path.{_≡_}
+use mir.Syntax.{w64}
 use mir.Val.{toZ, ofZ}
-use mir.ValLaws.{toZ-ofZ}
 use lib.Dec.{lit<}
 use Rattle.signed.proofs.Sizes.{held-size}
 use Rattle.marks.specs.Aggregates.{aggregateBasis}

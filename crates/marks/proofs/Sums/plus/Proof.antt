@@ -1,7 +1,6 @@
 -- `marks::Sums::plus` meets its contract. Assumes nothing.
 use borrow.Author.Needs.{needs}
 use mathlib.Core.Path.{subst}
-use Rattle.telemetry.specs.declared.Line.{Line}
 use Rattle.marks.specs.Bounds.{SmallLine}
 use Rattle.marks.specs.Aggregates.{addMember}
 use Rattle.marks.proofs.Sums.plus.Statement.{statement}
@@ -11,7 +10,7 @@ enum-known-line : tie.Need-enum-known-line
 enum-known-line c = search needs
 
 plus-readable-requires : tie.Need-plus-readable-requires
-plus-readable-requires c κs = ((c .before .before .before .before) .pre .0, subst SmallLine (c .before .line .given .1) ((c .before .before .before .before) .pre .1 .line))
+plus-readable-requires c κs = (c .before .before .before .before .pre .0, subst SmallLine (c .before .line .given .1) (c .before .before .before .before .pre .1 .line))
 
 enum-told : tie.Need-enum-told
 enum-told c = search needs

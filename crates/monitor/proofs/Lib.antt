@@ -1,0 +1,16 @@
+-- What belongs to no one function. For the calls: States, Passes, Surveys, Numbers, Verdicts and Operated. For demand 3: the rest.
+pub mod States
+pub mod Passes
+pub mod Surveys
+pub mod Numbers
+pub mod Verdicts
+pub mod Operated
+pub mod Places
+pub mod Locality
+pub mod Returns
+pub mod Soundness
+pub mod Groups
+pub mod Runs
+pub mod Tracks
+pub mod Declarations
+pub mod Demand

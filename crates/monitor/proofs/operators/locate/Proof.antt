@@ -1,0 +1,31 @@
+-- `monitor::operators::locate` meets its contract. Assumes nothing.
+use borrow.Author.Needs.{needs}
+use mathlib.Core.Path.{_≡_, sym, _∙_}
+use mathlib.Core.Bool.{true}
+use borrow.Author.Tests.{not-true, not-false}
+use Rattle.monitor.proofs.States.{units-small, aggregates-small}
+use Rattle.monitor.proofs.Operated.{named-is, locates-20, locates-10, locates}
+use Rattle.monitor.specs.Monitors.{soundOf}
+use Rattle.monitor.proofs.operators.locate.Statement.{statement}
+use Rattle.monitor.proofs.operators.locate.Tie as tie
+
+sound : (c : tie.Else1) → soundOf (c .before .before .args .m) ≡ true
+sound c = sym (c .before .is-sound .ensures) ∙ not-false _ (c .if1 .left)
+
+is-sound-requires : tie.Need-is-sound-requires
+is-sound-requires c κs = search needs
+
+returns : tie.Need-returns
+returns c = sym (locates-20 (c .before .before .args .m) (c .before .before .args .point) (sym (c .before .is-sound .ensures) ∙ not-true _ (c .if1 .taken)))
+
+is-named-requires : tie.Need-is-named-requires
+is-named-requires c κs = (units-small (c .before .before .before .args .m) (sound (c .before)), aggregates-small (c .before .before .before .args .m) (sound (c .before)))
+
+returns-2 : tie.Need-returns-2
+returns-2 c = sym (locates-10 (c .before .before .before .before .before .args .m) (c .before .before .before .before .before .args .point) (sound (c .before .before .before)) (named-is (c .before .before .before .before .before .args .m .plant) (c .before .before .before .before .before .args .point) ∙ sym (c .before .is-named .ensures) ∙ not-true _ (c .if2 .taken)))
+
+returns-3 : tie.Need-returns-3
+returns-3 c = sym (locates (c .before .before .before .before .before .args .m) (c .before .before .before .before .before .args .point) (sound (c .before .before .before)) (named-is (c .before .before .before .before .before .args .m .plant) (c .before .before .before .before .before .args .point) ∙ sym (c .before .is-named .ensures) ∙ not-false _ (c .if2 .left)))
+
+pub locate-spec : {M : Type 1} → statement M
+locate-spec = tie.close (tie.spec is-sound-requires returns is-named-requires returns-2 returns-3)

@@ -1,0 +1,53 @@
+-- `monitor::operators::look` meets its contract. Assumes nothing.
+use borrow.Author.Needs.{needs}
+use native.Mathlib.Omega.{arith}
+use mathlib.Core.Path.{_≡_, refl, sym, _∙_}
+use Prim.Native.Nat.{_-_, _≤_}
+use Rattle.monitor.specs.Plants.{place}
+use Rattle.monitor.proofs.Operated.{located, refused-look, located-look}
+use Rattle.monitor.proofs.operators.look.Statement.{statement}
+use Rattle.monitor.proofs.operators.look.Tie as tie
+
+found : (c : tie.After-enum-told) → (1 ≤ (c .before .before .before) .args .point) × (c .before .before .before .args .point ≤ 80) × (place (c .before .before .before .args .point) ≡ (c .before .before .before) .args .point - 1)
+found c = located (c .before .before .before .args .m) (c .before .before .before .args .point) (sym (c .before .before .locate .ensures) ∙ c .enum-told .given .1)
+
+locate-requires : tie.Need-locate-requires
+locate-requires c κs = search needs
+
+enum-told : tie.Need-enum-told
+enum-told c = search needs
+
+sub-look-at : tie.Need-sub-look-at
+sub-look-at c = omega (arith, found c)
+
+cast-look-at : tie.Need-cast-look-at
+cast-look-at c = search needs
+
+look-at-requires : tie.Need-look-at-requires
+look-at-requires c κs = omega (arith, found c)
+
+enum-told-2 : tie.Need-enum-told-2
+enum-told-2 c = search needs
+
+normal-point-requires : tie.Need-normal-point-requires
+normal-point-requires c κs = search needs
+
+returns : tie.Need-returns
+returns c = c .look-at .ensures ∙ located-look (c .before .before .before .before .args .m) (c .before .before .before .before .args .point) (c .before .before .before .locate .result) (c .before .before .before .locate .ensures) (c .before .before .before .before .args .point - 1) (c .before .enum-told .given .1) refl
+
+returns-2 : tie.Need-returns-2
+returns-2 c = rw (c .normal-point .ensures) (refused-look (c .before .before .before .before .args .m) (c .before .before .before .before .args .point) (c .before .before .before .locate .result) (c .before .before .before .locate .ensures) _ (c .before .enum-told2 .given .1))
+
+pub look-spec : {M : Type 1} → statement M
+look-spec =
+    tie.close
+    (tie.spec
+    locate-requires
+    enum-told
+    sub-look-at
+    cast-look-at
+    look-at-requires
+    enum-told-2
+    normal-point-requires
+    returns
+    returns-2)

@@ -1,0 +1,50 @@
+-- `monitor::operators::reinstate` meets its contract. Assumes nothing.
+use borrow.Author.Needs.{needs}
+use native.Mathlib.Omega.{arith}
+use mathlib.Core.Path.{_≡_, refl, sym, _∙_}
+use Prim.Native.Nat.{_-_, _≤_}
+use Rattle.monitor.specs.Plants.{place}
+use Rattle.monitor.proofs.Operated.{located, refused-call, located-call}
+use Rattle.monitor.specs.Operators.{reinstate}
+use Rattle.monitor.proofs.operators.reinstate.Statement.{statement}
+use Rattle.monitor.proofs.operators.reinstate.Tie as tie
+
+found : (c : tie.After-enum-told) → (1 ≤ (c .before .before .before) .args .point) × (c .before .before .before .args .point ≤ 80) × (place (c .before .before .before .args .point) ≡ (c .before .before .before) .args .point - 1)
+found c = located (c .before .before .before .args .m) (c .before .before .before .args .point) (sym (c .before .before .locate .ensures) ∙ c .enum-told .given .1)
+
+locate-requires : tie.Need-locate-requires
+locate-requires c κs = search needs
+
+enum-told : tie.Need-enum-told
+enum-told c = search needs
+
+sub-reinstate-at : tie.Need-sub-reinstate-at
+sub-reinstate-at c = omega (arith, found c)
+
+cast-reinstate-at : tie.Need-cast-reinstate-at
+cast-reinstate-at c = search needs
+
+reinstate-at-requires : tie.Need-reinstate-at-requires
+reinstate-at-requires c κs = omega (arith, found c)
+
+enum-told-2 : tie.Need-enum-told-2
+enum-told-2 c = search needs
+
+returns : tie.Need-returns
+returns c = c .reinstate-at .ensures ∙ located-call (c .before .before .before .before .args .m) (c .before .before .before .before .args .point) (c .before .before .before .locate .result) (c .before .before .before .locate .ensures) reinstate (c .before .before .before .before .args .point - 1) (c .before .enum-told .given .1) refl
+
+returns-2 : tie.Need-returns-2
+returns-2 c = refused-call (c .before .before .before .args .m) (c .before .before .before .args .point) (c .before .before .locate .result) (c .before .before .locate .ensures) reinstate _ (c .enum-told2 .given .1)
+
+pub reinstate-spec : {M : Type 1} → statement M
+reinstate-spec =
+    tie.close
+    (tie.spec
+    locate-requires
+    enum-told
+    sub-reinstate-at
+    cast-reinstate-at
+    reinstate-at-requires
+    enum-told-2
+    returns
+    returns-2)

@@ -1,0 +1,54 @@
+-- Lists of calls (01, "Whole lists of calls"): the first call is given a state, every later one the state that the call before it
+-- returned, accepted or refused. Each step is by the definitions that the calls' contracts cite.
+use mathlib.Core.List.{List}
+use Prim.Native.Nat.{ℕ}
+use lib.IntN.{ℤ}
+use lib.ListN.{length}
+use Rattle.trace.specs.Lists.{fold, outcomes}
+use Rattle.points.specs.declared.Point.{Point}
+use Rattle.monitor.specs.Intervals.{decide, intervalOf, reportOf}
+use Rattle.monitor.specs.Operators.{Operator, declare, reinstate, look, operatedOf, lookedOf}
+use Rattle.monitor.specs.declared.Monitor.{Monitor}
+
+-- an interval with the report buffer as it stood, or an operator call that names a point
+pub data Call : Type 0 where
+  interval : (buffer report : List ℕ) → Call
+  operate : Operator → (point : ℕ) → Call
+
+-- a refusal's number, the report's bytes, or the answer to an operator call
+pub data Outcome : Type 0 where
+  refusal : ℕ → Outcome
+  reported : List ℕ → Outcome
+  done : Outcome
+  looked : (status small large : ℕ) (level : ℤ) → Outcome
+
+abbrev pub reply : Operator → Point → Outcome
+reply (declare level) q = done
+reply reinstate q = done
+reply look q = looked (q .status) (q .small) (q .large) (q .level)
+
+-- the state that a call returns
+abbrev pub nextBy : Operator → Monitor → ℕ → Monitor
+nextBy (declare level) m p = operatedOf (declare level) m p .monitor
+nextBy reinstate m p = operatedOf reinstate m p .monitor
+nextBy look m p = lookedOf m p .monitor
+
+abbrev pub next : Monitor → Call → Monitor
+next m (interval buffer report) = intervalOf m buffer (length report) .monitor
+next m (operate op p) = nextBy op m p
+
+-- what a call answers, and for an interval what it leaves in the report
+abbrev pub answerBy : Operator → Monitor → ℕ → Outcome
+answerBy (declare level) m p = decide (operatedOf (declare level) m p .verdict) refusal done
+answerBy reinstate m p = decide (operatedOf reinstate m p .verdict) refusal done
+answerBy look m p = decide (lookedOf m p .verdict) refusal (reply look (lookedOf m p .point))
+
+abbrev pub answer : Monitor → Call → Outcome
+answer m (interval buffer report) = decide (intervalOf m buffer (length report) .verdict) refusal (reported (reportOf m buffer report))
+answer m (operate op p) = answerBy op m p
+
+abbrev pub after : Monitor → List Call → Monitor
+after = fold next
+
+abbrev pub run : Monitor → List Call → List Outcome
+run = outcomes next answer

@@ -1,0 +1,158 @@
+-- What has happened, worked out from the plant and the calls alone, first call to last (01, "Whole lists of calls"): "nothing from
+-- the monitor's state or answers goes in". Runs do not stop at 255 and go on while a point is declared.
+use mathlib.Core.Bool.{Bool, true, false, cond, _&&_, not}
+use mathlib.Core.List.{List}
+use Prim.Native.Nat.{ℕ, min}
+use lib.IntN.{ℤ, pos}
+use lib.ListN.{length}
+use Rattle.trace.specs.Sweeps.{records}
+use Rattle.trace.specs.Lists.{fold, updated, below}
+use Rattle.register.specs.declared.Plant.{Plant}
+use Rattle.marks.specs.KeptLines.{nothingKept, keptFrom}
+use Rattle.marks.specs.declared.Kept.{Kept}
+use Rattle.marks.specs.declared.Assessment.{Assessment}
+use Rattle.points.specs.Points.{declaredAt, reaches, statusOf, smallAfter, largeAfter, declares}
+use Rattle.points.specs.Records.{recordOf}
+use Rattle.points.specs.declared.Point.{Point}
+use Rattle.monitor.specs.Plants.{total, place, named}
+use Rattle.monitor.specs.Assessments.{headerOf, numberOf, isAutomatic, ruleOf, lineAt, isFresh, assessmentAt}
+use Rattle.monitor.specs.Intervals.{decide, judgeInterval}
+use Rattle.monitor.specs.Operators.{Operator, declare, reinstate, look, allowedLevel}
+use Rattle.monitor.specs.Calls.{Call, interval, operate, Outcome, refusal, reported, reply}
+use Rattle.monitor.specs.declared.Verdict.{Verdict}
+use Rattle.monitor.specs.declared.Verdict.the-variants.{Accept, Refuse}
+
+-- whether a declaration stands, and at which level
+pub data Standing : Type 0 where
+  undeclared : Standing
+  declared : (level : ℤ) → Standing
+
+abbrev pub isDeclared : Standing → Bool
+isDeclared undeclared = false
+isDeclared (declared level) = true
+
+-- one point
+pub record Past : Type 0 where
+  pub small : ℕ
+  pub large : ℕ
+  pub standing : Standing
+
+-- whether an interval was accepted, the last one's number and mode, each unit's kept line, and each point, by place
+pub record History : Type 0 where
+  pub started : Bool
+  pub last : ℕ
+  pub automatic : Bool
+  pub kept : ℕ → Kept
+  pub points : ℕ → Past
+
+-- "At the start no interval is accepted, nothing is kept and runs are 0"
+abbrev pub untouched : Past
+untouched = record { small = 0; large = 0; standing = undeclared }
+
+abbrev pub begin : History
+begin = record { started = false; last = 0; automatic = false; kept = λ i. nothingKept; points = λ i. untouched }
+
+-- ---- an accepted interval
+
+-- "A declared point is not declared again"
+abbrev pub standingAfter : Bool → ℤ → Standing → Standing
+standingAfter event level (declared earlier) = declared earlier
+standingAfter true level undeclared = declared level
+standingAfter false level undeclared = undeclared
+
+-- "SMALL adds 1 to the small run and sets the large run to 0; LARGE adds 1 to both; OFF and CLEAR set both to 0; BLANK and DOUBT
+-- change neither", and a mark that brings a run to its length declares
+abbrev pub marked : Plant → Bool → Assessment → Past → Past
+marked plant automatic a q =
+    let small = smallAfter (a .mark) (q .small) in
+    let large = largeAfter (a .mark) (q .large) in
+    record {
+      small = small;
+      large = large;
+      standing = standingAfter (declares (ruleOf plant automatic) (a .mark) small large) (a .power) (q .standing);
+    }
+
+-- "An accepted one marks every point from its lines and the lines kept before it"
+abbrev pub assessmentThen : Plant → History → List ℕ → ℕ → Assessment
+assessmentThen plant h buffer i =
+    assessmentAt plant buffer (isFresh (h .started) (h .last) (numberOf (headerOf buffer))) (h .kept) i
+
+-- ---- operator calls
+
+-- "Declare is accepted when 10 and 11 do not apply, demand 3's rule over the calls before it finds the point not declared, and its
+-- small run is Ns or more or its large run Nl or more. Reinstate is accepted when 10 does not apply and that rule finds the point
+-- declared"
+unfoldable pub permitted : Plant → Operator → Past → Verdict
+permitted plant (declare level) q =
+    cond (allowedLevel level)
+    (cond (not (isDeclared (q .standing)) && reaches (plant .small .«not_responding») (plant .large .«not_responding») (q .small) (q .large))
+    Accept
+    (Refuse 22))
+    (Refuse 11)
+permitted plant reinstate q = cond (isDeclared (q .standing)) Accept (Refuse 23)
+permitted plant look q = Accept
+
+-- reinstatement "sets both runs to 0"
+abbrev pub changed : Operator → Past → Past
+changed (declare level) q = record { small = q .small; large = q .large; standing = declared level }
+changed reinstate q = untouched
+changed look q = q
+
+-- ---- a call
+
+-- "An interval is accepted unless 8, 9 or 21 applies, 21 looking at the intervals accepted earlier in the list"
+abbrev pub verdict : Plant → History → Call → Verdict
+verdict plant h (interval buffer report) =
+    judgeInterval plant (h .started) (h .last) (headerOf buffer) (length buffer) (length report)
+verdict plant h (operate op p) = cond (named plant p) (permitted plant op (h .points (place p))) (Refuse 10)
+
+abbrev pub effect : Plant → History → Call → History
+effect plant h (interval buffer report) =
+    record {
+      started = true;
+      last = numberOf (headerOf buffer);
+      automatic = isAutomatic (headerOf buffer);
+      kept = below (plant .units) (λ i. keptFrom (lineAt plant buffer i)) (h .kept);
+      points = below (total plant) (λ i. marked plant (isAutomatic (headerOf buffer)) (assessmentThen plant h buffer i) (h .points i)) (h .points);
+    }
+effect plant h (operate op p) =
+    record {
+      started = h .started;
+      last = h .last;
+      automatic = h .automatic;
+      kept = h .kept;
+      points = updated (place p) (changed op (h .points (place p))) (h .points);
+    }
+
+-- "Look, and any refused call, changes nothing here"
+abbrev pub extend : Plant → History → Call → History
+extend plant h c = decide (verdict plant h c) (λ k. h) (effect plant h c)
+
+abbrev pub history : Plant → List Call → History
+history plant = fold (extend plant) begin
+
+-- ---- what is seen of it
+
+-- the record that a look answers and a report holds: runs stop at 255 and are 0 while declared, and the status is that of the last
+-- accepted interval's mode
+abbrev pub shownAs : Plant → Bool → ℕ → ℕ → Standing → Point
+shownAs plant automatic small large undeclared =
+    record {
+      status = statusOf (ruleOf plant automatic) small large;
+      small = min 255 small;
+      large = min 255 large;
+      level = pos 0;
+    }
+shownAs plant automatic small large (declared level) = declaredAt level
+
+abbrev pub shown : Plant → Bool → Past → Point
+shown plant automatic q = shownAs plant automatic (q .small) (q .large) (q .standing)
+
+-- the outcome of a call, by the history before it
+abbrev pub foretold : Plant → History → Call → Outcome
+foretold plant h (interval buffer report) =
+    let then = effect plant h (interval buffer report) in
+    decide (verdict plant h (interval buffer report)) refusal
+    (reported (records (λ i. recordOf (assessmentThen plant h buffer i) (shown plant (then .automatic) (then .points i))) (total plant)))
+foretold plant h (operate op p) =
+    decide (verdict plant h (operate op p)) refusal (reply op (shown plant (h .automatic) (h .points (place p))))

@@ -1,0 +1,101 @@
+-- The operator calls (01, "Report and operator calls"): what is permitted on a point's record, what it becomes, and what is
+-- answered.
+use mathlib.Core.Bool.{Bool, cond, _||_}
+use Prim.Native.Nat.{ℕ}
+use lib.Dec.{leb, eqb}
+use lib.IntN.{ℤ, natAbs}
+use lib.ListN.{set}
+use Rattle.register.specs.declared.Plant.{Plant}
+use Rattle.points.specs.Points.{normal, declaredAt}
+use Rattle.points.specs.declared.Point.{Point}
+use Rattle.monitor.specs.Plants.{place, named}
+use Rattle.monitor.specs.Monitors.{pointAt, soundOf}
+use Rattle.monitor.specs.Intervals.{decide}
+use Rattle.monitor.specs.declared.Monitor.{Monitor}
+use Rattle.monitor.specs.declared.Verdict.{Verdict}
+use Rattle.monitor.specs.declared.Verdict.the-variants.{Accept, Refuse}
+use Rattle.monitor.specs.declared.Stepped.{Stepped}
+use Rattle.monitor.specs.declared.Looked.{Looked}
+
+pub data Operator : Type 0 where
+  declare : (level : ℤ) → Operator
+  reinstate : Operator
+  look : Operator
+
+-- 11: "level beyond ±128,000,000"
+abbrev pub allowedLevel : ℤ → Bool
+allowedLevel level = leb (natAbs level) 128000000
+
+-- 22: "declare on status other than 2 or 3"; 23: "reinstate on status other than 4"
+unfoldable pub permit : Operator → Point → Verdict
+permit (declare level) q =
+    cond (allowedLevel level) (cond (eqb (q .status) 2 || eqb (q .status) 3) Accept (Refuse 22)) (Refuse 11)
+permit reinstate q = cond (eqb (q .status) 4) Accept (Refuse 23)
+permit look q = Accept
+
+-- "Declare (point, level): status 4, declared at that level, runs 0. Reinstate (point): status 0, runs 0, level 0"
+unfoldable pub change : Operator → Point → Point
+change (declare level) q = declaredAt level
+change reinstate q = normal
+change look q = q
+
+-- 10 goes before what the record says, 20 before all
+abbrev pub judgeOperator : Plant → Operator → ℕ → Point → Verdict
+judgeOperator plant op p q = cond (named plant p) (permit op q) (Refuse 10)
+
+-- 20 and 10, which every operator call is tested for
+unfoldable pub locateOf : Monitor → ℕ → Verdict
+locateOf m p = cond (soundOf m) (cond (named (m .plant) p) Accept (Refuse 10)) (Refuse 20)
+
+unfoldable pub operatorVerdict : Operator → Monitor → ℕ → Verdict
+operatorVerdict op m p = cond (soundOf m) (judgeOperator (m .plant) op p (pointAt m (place p))) (Refuse 20)
+
+-- the state with one point's record written
+unfoldable pub stored : Monitor → ℕ → Point → Monitor
+stored m i q =
+    record {
+      loaded = m .loaded;
+      plant = m .plant;
+      started = m .started;
+      last = m .last;
+      kept = m .kept;
+      points = set (m .points) i q;
+    }
+
+unfoldable pub operatedOf : Operator → Monitor → ℕ → Stepped
+operatedOf op m p =
+    let v = operatorVerdict op m p in
+    record { verdict = v; monitor = decide v (λ k. m) (stored m (place p) (change op (pointAt m (place p)))) }
+
+-- at a place where a point's record stands
+unfoldable pub operatedAt : Operator → Monitor → ℕ → Stepped
+operatedAt op m i =
+    let v = permit op (pointAt m i) in
+    record { verdict = v; monitor = decide v (λ k. m) (stored m i (change op (pointAt m i))) }
+
+abbrev pub declareAt : Monitor → ℕ → ℤ → Stepped
+declareAt m i level = operatedAt (declare level) m i
+
+abbrev pub reinstateAt : Monitor → ℕ → Stepped
+reinstateAt m i = operatedAt reinstate m i
+
+unfoldable pub lookedAt : Monitor → ℕ → Looked
+lookedAt m i = record { verdict = Accept; point = pointAt m i; monitor = m }
+
+abbrev pub permitDeclare : ℤ → Point → Verdict
+permitDeclare level q = permit (declare level) q
+
+abbrev pub permitReinstate : Point → Verdict
+permitReinstate q = permit reinstate q
+
+abbrev pub declareOf : Monitor → ℕ → ℤ → Stepped
+declareOf m p level = operatedOf (declare level) m p
+
+abbrev pub reinstateOf : Monitor → ℕ → Stepped
+reinstateOf m p = operatedOf reinstate m p
+
+-- "Look (point): status, runs, level"; zero values where it is refused. A look changes nothing
+unfoldable pub lookedOf : Monitor → ℕ → Looked
+lookedOf m p =
+    let v = operatorVerdict look m p in
+    record { verdict = v; point = decide v (λ k. normal) (pointAt m (place p)); monitor = m }

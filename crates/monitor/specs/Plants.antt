@@ -1,0 +1,45 @@
+-- Points, units and groups (01, "The register": "Points are 1 to n for the units, n+1 to n+m for the aggregates. A group is an
+-- aggregate with its members, or a unit in no chain"). In lists a point or a unit stands at its place, its number less one.
+use mathlib.Core.Bool.{Bool, false, cond, _&&_, _||_}
+use mathlib.Core.List.{List, [], _∷_, map}
+use Prim.Native.Nat.{ℕ, zero, suc, _+_, _-_}
+use lib.Dec.{eqb, ltb}
+use Rattle.register.specs.Chains.{membersOf}
+use Rattle.register.specs.declared.Plant.{Plant}
+
+abbrev pub total : Plant → ℕ
+total plant = plant .units + plant .aggregates
+
+abbrev pub place : ℕ → ℕ
+place zero = zero
+place (suc i) = i
+
+-- neither "point 0" nor "above n+m"
+unfoldable pub named : Plant → ℕ → Bool
+named plant zero = false
+named plant (suc i) = ltb i (total plant)
+
+-- the places of an aggregate's members, in chain order; j is counted from 0
+unfoldable pub placesOf : Plant → ℕ → List ℕ
+placesOf plant j = map place (membersOf plant j)
+
+-- the places of the units whose lines the point at a place is assessed from
+unfoldable pub unitsOf : Plant → ℕ → List ℕ
+unitsOf plant i = cond (ltb i (plant .units)) (i ∷ []) (placesOf plant (i - plant .units))
+
+abbrev pub elem : ℕ → List ℕ → Bool
+elem x [] = false
+elem x (y ∷ ys) = eqb x y || elem x ys
+
+-- by place. Demand 3 speaks of a unit in no chain; what is said of `unit` holds of a member by itself too
+pub data Group : Type 0 where
+  unit : ℕ → Group
+  aggregate : ℕ → Group
+
+unfoldable pub unitIn : Plant → Group → ℕ → Bool
+unitIn plant (unit u) x = eqb x u
+unitIn plant (aggregate j) x = elem x (placesOf plant j)
+
+unfoldable pub pointIn : Plant → Group → ℕ → Bool
+pointIn plant (unit u) i = ltb i (plant .units) && eqb i u
+pointIn plant (aggregate j) i = cond (ltb i (plant .units)) (elem i (placesOf plant j)) (eqb i (plant .units + j))

@@ -1,0 +1,26 @@
+//! Conformance monitor: a register of plant, intervals and operator calls in, report records out.
+//!
+//! Fields are little-endian; power is in kW, ramp rates in kW per minute, triggers in hundredths of a kW.
+//!
+//! - [`register`]: register bytes to a [`Plant`], refusals 1 to 7, visits
+//! - [`line`]: one 40-byte line, readable or not, and a float as whole kW
+//! - [`marks`]: rate of change, triggers, errors, the mark of a unit and of an aggregate
+//! - [`monitor`]: the state; load, interval, declare, reinstate, look; the report
+//!
+//! Around it: [`program`] and [`replay`] print what the calls answer, [`random_calls`] and [`bench_input`] make input.
+
+pub mod bench_input;
+pub mod line;
+pub mod marks;
+pub mod monitor;
+pub mod program;
+pub mod random_calls;
+pub mod refusal;
+pub mod register;
+pub mod replay;
+
+pub use line::Kind;
+pub use marks::{unit_mark, Mark};
+pub use monitor::{Look, Monitor, RECORD};
+pub use refusal::Refusal;
+pub use register::Plant;

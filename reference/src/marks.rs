@@ -1,0 +1,459 @@
+//! Rate of change, triggers, errors, and the mark of a unit and of an aggregate.
+//!
+//! An aggregate has at most 64 members and each value of a line is within 2,000,000, so its sums are within 128,000,000
+//! and its differences within 512,000,000: i32 and u32 hold them. Products by 100, 200 and 400 are taken in u64.
+
+use crate::line::{Kept, Kind, Line, Quality, LINE};
+use std::cmp::Ordering;
+
+#[derive(Clone, Copy, PartialEq, Eq, Debug)]
+#[repr(u8)]
+pub enum Mark {
+    Off = 0,
+    Blank = 1,
+    Clear = 2,
+    Doubt = 3,
+    Small = 4,
+    Large = 5,
+}
+
+/// The answer of [`unit_mark`] to an unknown kind or a line that is not 40 bytes.
+pub const NO_MARK: u32 = 6;
+
+/// What an interval finds of a point. Error and trigger are 0 for OFF and BLANK.
+#[derive(Clone, Copy, PartialEq, Eq, Debug)]
+pub struct Assessment {
+    pub mark: Mark,
+    pub error: i32,
+    /// The small trigger.
+    pub trigger: u32,
+    /// MW, the signed sum for an aggregate; the level if this interval declares the point.
+    pub power: i32,
+}
+
+impl Assessment {
+    #[inline(always)]
+    fn without_error(mark: Mark) -> Self {
+        Self { mark, error: 0, trigger: 0, power: 0 }
+    }
+}
+
+/// Triggers in hundredths of a kW.
+#[derive(Clone, Copy, PartialEq, Eq, Debug)]
+pub struct Triggers {
+    pub small: u32,
+    pub large: u32,
+}
+
+impl Triggers {
+    const LEAST: u32 = 600_000;
+
+    /// From MWO and ROC. Both are at most 128,000,000, so 5 × MWO is below 2^32.
+    #[inline(always)]
+    pub fn of(availability: u32, rate: u32) -> Self {
+        let lesser = |by_availability: u32, by_rate: u64| u64::from(by_availability).min(by_rate) as u32;
+        Self {
+            small: lesser(3 * availability, 200 * u64::from(rate)).max(Self::LEAST),
+            large: lesser(5 * availability, 400 * u64::from(rate)).max(Self::LEAST),
+        }
+    }
+}
+
+/// ROC in one direction out of ramp up and ramp down: target above power goes up, below goes down, equal takes the least.
+#[inline(always)]
+fn rate(direction: Ordering, up: u32, down: u32) -> u32 {
+    match direction {
+        Ordering::Greater => up,
+        Ordering::Less => down,
+        Ordering::Equal => up.min(down),
+    }
+}
+
+/// The signed error of `power` against the kept target with its margins.
+#[inline(always)]
+pub fn error(power: i32, target: i32, up: u32, down: u32) -> i32 {
+    let above = power - (target + up as i32);
+    let below = power - (target - down as i32);
+    // At most one of the two is nonzero, as above <= below.
+    above.max(0) + below.min(0)
+}
+
+/// CLEAR, DOUBT, SMALL or LARGE.
+#[inline(always)]
+fn judge(power: i32, error: i32, triggers: Triggers, substituted: bool) -> Assessment {
+    let size = 100 * u64::from(error.unsigned_abs());
+    let mark = if size <= u64::from(triggers.small) {
+        Mark::Clear
+    } else if substituted {
+        Mark::Doubt
+    } else if size > u64::from(triggers.large) {
+        Mark::Large
+    } else {
+        Mark::Small
+    };
+    Assessment { mark, error, trigger: triggers.small, power }
+}
+
+/// A unit's assessment from this interval's line and the line kept from the interval before; None is unreadable, and
+/// nothing kept or stale.
+#[inline(always)]
+pub fn assess_unit(kind: Kind, member: bool, line: Option<&Line>, kept: Option<&Kept>) -> Assessment {
+    let Some(line) = line else {
+        return Assessment::without_error(Mark::Blank);
+    };
+    if member && line.mode != 2 {
+        return Assessment::without_error(Mark::Off);
+    }
+    let (Some(kept), Quality::Good | Quality::Substituted) = (kept, line.quality) else {
+        return Assessment::without_error(Mark::Blank);
+    };
+    let (up, down) = match kind {
+        Kind::Load => (kept.lower, kept.raise),
+        Kind::Generating | Kind::Bidirectional => (kept.raise, kept.lower),
+    };
+    let rate = rate(line.target.cmp(&line.power), line.ramp_up, line.ramp_down);
+    judge(
+        line.power,
+        error(line.power, kept.target, up, down),
+        Triggers::of(line.availability, rate),
+        line.quality == Quality::Substituted,
+    )
+}
+
+/// Sums over the members of one side of an aggregate: kinds 1 and 3, or kind 2.
+#[derive(Clone, Copy, Default)]
+struct Side {
+    availability: u32,
+    ramp_up: u32,
+    ramp_down: u32,
+    ramp_least: u32,
+}
+
+impl Side {
+    #[inline(always)]
+    fn rate(&self, direction: Ordering) -> u32 {
+        match direction {
+            Ordering::Greater => self.ramp_up,
+            Ordering::Less => self.ramp_down,
+            Ordering::Equal => self.ramp_least,
+        }
+    }
+}
+
+/// An aggregate, member by member.
+#[derive(Clone, Copy)]
+pub struct Aggregate {
+    unreadable: bool,
+    modes_zero: bool,
+    /// A member with quality 2 or nothing kept.
+    missing: bool,
+    substituted: bool,
+    power: i32,
+    target: i32,
+    kept_target: i32,
+    up: u32,
+    down: u32,
+    generating: Side,
+    load: Side,
+}
+
+impl Default for Aggregate {
+    fn default() -> Self {
+        Self {
+            unreadable: false,
+            modes_zero: true,
+            missing: false,
+            substituted: false,
+            power: 0,
+            target: 0,
+            kept_target: 0,
+            up: 0,
+            down: 0,
+            generating: Side::default(),
+            load: Side::default(),
+        }
+    }
+}
+
+impl Aggregate {
+    #[inline(always)]
+    pub fn add(&mut self, kind: Kind, line: Option<&Line>, kept: Option<&Kept>) {
+        let Some(line) = line else {
+            self.unreadable = true;
+            return;
+        };
+        self.modes_zero &= line.mode == 0;
+        let (Some(kept), Quality::Good | Quality::Substituted) = (kept, line.quality) else {
+            self.missing = true;
+            return;
+        };
+        self.substituted |= line.quality == Quality::Substituted;
+        let side = if kind == Kind::Load {
+            self.power -= line.power;
+            self.target -= line.target;
+            self.kept_target -= kept.target;
+            &mut self.load
+        } else {
+            self.power += line.power;
+            self.target += line.target;
+            self.kept_target += kept.target;
+            &mut self.generating
+        };
+        self.up += kept.raise;
+        self.down += kept.lower;
+        side.availability += line.availability;
+        side.ramp_up += line.ramp_up;
+        side.ramp_down += line.ramp_down;
+        side.ramp_least += line.ramp_up.min(line.ramp_down);
+    }
+
+    #[inline(always)]
+    pub fn assess(&self) -> Assessment {
+        if self.unreadable {
+            return Assessment::without_error(Mark::Blank);
+        }
+        if self.modes_zero {
+            return Assessment::without_error(Mark::Off);
+        }
+        if self.missing {
+            return Assessment::without_error(Mark::Blank);
+        }
+        let direction = self.target.cmp(&self.power);
+        let rate = self.generating.rate(direction).max(self.load.rate(direction.reverse()));
+        let availability = self.generating.availability.max(self.load.availability);
+        judge(
+            self.power,
+            error(self.power, self.kept_target, self.up, self.down),
+            Triggers::of(availability, rate),
+            self.substituted,
+        )
+    }
+}
+
+/// The mark of the second of two successive lines of a unit in no chain; 6 for an unknown kind or a line that is not
+/// 40 bytes.
+pub fn unit_mark(kind: u32, earlier: &[u8], later: &[u8]) -> u32 {
+    let (Some(kind), Ok(earlier), Ok(later)) =
+        (Kind::of(kind), <&[u8; LINE]>::try_from(earlier), <&[u8; LINE]>::try_from(later))
+    else {
+        return NO_MARK;
+    };
+    let kept = Line::read(earlier, kind, false).map(|line| line.kept());
+    let line = Line::read(later, kind, false);
+    assess_unit(kind, false, line.as_ref(), kept.as_ref()).mark as u32
+}
+
+#[cfg(test)]
+mod tests {
+    use super::*;
+
+    const ORDINARY: Line = Line {
+        quality: Quality::Good,
+        mode: 2,
+        target: 100_000,
+        availability: 100_000,
+        raise: 5_000,
+        lower: 0,
+        power: 100_000,
+        ramp_up: 3_000,
+        ramp_down: 3_000,
+    };
+    const KEPT: Kept = Kept { target: 100_000, raise: 5_000, lower: 0 };
+
+    fn unit(kind: Kind, line: Line) -> (Mark, i32) {
+        let found = assess_unit(kind, false, Some(&line), Some(&KEPT));
+        assert_eq!(found.trigger, 600_000);
+        (found.mark, found.error)
+    }
+
+    #[test]
+    fn table_of_triggers() {
+        for (availability, rate, small, large) in [
+            (100_000, 3_000, 600_000, 600_000),
+            (500_000, 5_000, 1_000_000, 2_000_000),
+            (400_000, 10_000, 1_200_000, 2_000_000),
+        ] {
+            assert_eq!(Triggers::of(availability, rate), Triggers { small, large });
+        }
+        // The greatest sums of an aggregate.
+        assert_eq!(Triggers::of(128_000_000, 128_000_000), Triggers { small: 384_000_000, large: 640_000_000 });
+        assert_eq!(Triggers::of(128_000_000, 0), Triggers { small: 600_000, large: 600_000 });
+    }
+
+    #[test]
+    fn table_of_marks() {
+        let at = |power| Line { power, ..ORDINARY };
+        assert_eq!(unit(Kind::Generating, at(111_000)), (Mark::Clear, 6_000));
+        assert_eq!(unit(Kind::Generating, at(111_001)), (Mark::Large, 6_001));
+        assert_eq!(unit(Kind::Load, at(89_000)), (Mark::Clear, -6_000));
+        assert_eq!(unit(Kind::Load, at(88_999)), (Mark::Large, -6_001));
+        // The margins themselves give 0.
+        assert_eq!(unit(Kind::Generating, at(105_000)), (Mark::Clear, 0));
+        assert_eq!(unit(Kind::Load, at(95_000)), (Mark::Clear, 0));
+        assert_eq!(unit(Kind::Load, at(106_001)), (Mark::Large, 6_001));
+    }
+
+    #[test]
+    fn small_between_the_triggers() {
+        // MWO 200,000: small 600,000, large 1,000,000.
+        let at = |power, quality| {
+            let line = Line { power, quality, availability: 200_000, ramp_up: 9_000, ramp_down: 9_000, ..ORDINARY };
+            unit(Kind::Bidirectional, line).0
+        };
+        assert_eq!(at(111_000, Quality::Good), Mark::Clear);
+        assert_eq!(at(111_001, Quality::Good), Mark::Small);
+        assert_eq!(at(115_000, Quality::Good), Mark::Small);
+        assert_eq!(at(115_001, Quality::Good), Mark::Large);
+        assert_eq!(at(111_000, Quality::Substituted), Mark::Clear);
+        assert_eq!(at(111_001, Quality::Substituted), Mark::Doubt);
+        assert_eq!(at(115_001, Quality::Substituted), Mark::Doubt);
+    }
+
+    #[test]
+    fn order_of_marks() {
+        let bad_off = Line { quality: Quality::Bad, mode: 0, ..ORDINARY };
+        let mark = |member, line, kept| assess_unit(Kind::Generating, member, line, kept).mark;
+        assert_eq!(mark(true, None, Some(&KEPT)), Mark::Blank);
+        assert_eq!(mark(true, Some(&bad_off), None), Mark::Off);
+        assert_eq!(mark(true, Some(&Line { mode: 1, ..ORDINARY }), Some(&KEPT)), Mark::Off);
+        assert_eq!(mark(true, Some(&ORDINARY), None), Mark::Blank);
+        assert_eq!(mark(true, Some(&ORDINARY), Some(&KEPT)), Mark::Clear);
+        assert_eq!(mark(false, Some(&bad_off), Some(&KEPT)), Mark::Blank);
+        let aggregate = |lines: &[(Option<&Line>, Option<&Kept>)]| {
+            let mut sums = Aggregate::default();
+            for &(line, kept) in lines {
+                sums.add(Kind::Generating, line, kept);
+            }
+            sums.assess().mark
+        };
+        assert_eq!(aggregate(&[(Some(&bad_off), None), (None, None)]), Mark::Blank);
+        assert_eq!(aggregate(&[(Some(&bad_off), None), (Some(&bad_off), Some(&KEPT))]), Mark::Off);
+        assert_eq!(aggregate(&[(Some(&bad_off), None), (Some(&ORDINARY), Some(&KEPT))]), Mark::Blank);
+        assert_eq!(aggregate(&[(Some(&ORDINARY), None), (Some(&ORDINARY), Some(&KEPT))]), Mark::Blank);
+        // A mode of 1 keeps an aggregate on, and so does one mode of 2; modes of 0 count in the sums.
+        let one = Line { mode: 1, ..ORDINARY };
+        let zero = Line { mode: 0, power: 140_000, ..ORDINARY };
+        assert_eq!(aggregate(&[(Some(&one), Some(&KEPT)), (Some(&one), Some(&KEPT))]), Mark::Clear);
+        assert_eq!(aggregate(&[(Some(&one), Some(&KEPT)), (Some(&zero), Some(&KEPT))]), Mark::Large);
+        // A substituted value of a member that is off counts.
+        let substituted = Line { quality: Quality::Substituted, ..zero };
+        assert_eq!(aggregate(&[(Some(&ORDINARY), Some(&KEPT)), (Some(&substituted), Some(&KEPT))]), Mark::Doubt);
+    }
+
+    #[test]
+    fn direction_of_a_unit() {
+        let base = Line { availability: 2_000_000, ramp_up: 4_000, ramp_down: 5_000, ..ORDINARY };
+        let trigger = |kind, power| assess_unit(kind, false, Some(&Line { power, ..base }), Some(&KEPT)).trigger;
+        for kind in [Kind::Generating, Kind::Load, Kind::Bidirectional] {
+            assert_eq!(trigger(kind, 99_999), 800_000);
+            assert_eq!(trigger(kind, 100_001), 1_000_000);
+            assert_eq!(trigger(kind, 100_000), 800_000);
+        }
+    }
+
+    #[test]
+    fn direction_of_an_aggregate() {
+        // A generating unit and two loads with rates of their own; MWO wide enough.
+        let generating = Line { availability: 2_000_000, ramp_up: 7_000, ramp_down: 9_000, ..ORDINARY };
+        let load = Line {
+            availability: 2_000_000,
+            target: 10_000,
+            power: 10_000,
+            ramp_up: 5_000,
+            ramp_down: 3_000,
+            ..ORDINARY
+        };
+        let found = |power| {
+            let mut sums = Aggregate::default();
+            sums.add(Kind::Generating, Some(&Line { power, ..generating }), Some(&KEPT));
+            sums.add(Kind::Load, Some(&load), Some(&KEPT));
+            sums.add(Kind::Load, Some(&load), Some(&KEPT));
+            sums.assess()
+        };
+        // Target above: generating up 7,000, loads down 6,000.
+        assert_eq!(found(90_000).trigger, 1_400_000);
+        // Below: generating down 9,000, loads up 10,000.
+        assert_eq!(found(110_000).trigger, 2_000_000);
+        // Equal: generating 7,000, loads 6,000.
+        assert_eq!(found(100_000).trigger, 1_400_000);
+        // Signed sums; FCR is up for the loads too: kept target -100,000, up 15,000, down 0.
+        assert_eq!(found(100_000).power, 80_000);
+        assert_eq!(found(100_000).error, 80_000 - (-100_000 + 15_000));
+        assert_eq!(found(-190_000).error, (-210_000) - (-100_000));
+    }
+
+    #[test]
+    fn sides_of_an_aggregate_are_taken_apart() {
+        // MWO from the loads, ROC from the generating side.
+        let generating = Line { availability: 100_000, ramp_up: 8_000, ramp_down: 8_000, ..ORDINARY };
+        let load = Line { availability: 900_000, ramp_up: 100, ramp_down: 100, ..ORDINARY };
+        let mut sums = Aggregate::default();
+        sums.add(Kind::Generating, Some(&generating), Some(&KEPT));
+        sums.add(Kind::Load, Some(&load), Some(&KEPT));
+        assert_eq!(sums.assess().trigger, 1_600_000);
+    }
+
+    #[test]
+    fn largest_aggregate() {
+        let line = Line {
+            target: -2_000_000,
+            power: 2_000_000,
+            availability: 2_000_000,
+            ramp_up: 2_000_000,
+            ramp_down: 2_000_000,
+            ..ORDINARY
+        };
+        let kept = Kept { target: -2_000_000, raise: 0, lower: 2_000_000 };
+        let mut sums = Aggregate::default();
+        for _ in 0..64 {
+            sums.add(Kind::Bidirectional, Some(&line), Some(&kept));
+        }
+        let found = sums.assess();
+        assert_eq!(
+            (found.mark, found.error, found.trigger, found.power),
+            (Mark::Large, 256_000_000, 384_000_000, 128_000_000)
+        );
+        let low = Line { power: -2_000_000, ..line };
+        let kept = Kept { target: 2_000_000, raise: 2_000_000, lower: 0 };
+        let mut sums = Aggregate::default();
+        for _ in 0..64 {
+            sums.add(Kind::Bidirectional, Some(&low), Some(&kept));
+        }
+        let found = sums.assess();
+        assert_eq!((found.mark, found.error, found.power), (Mark::Large, -256_000_000, -128_000_000));
+    }
+
+    #[test]
+    fn function_for_the_host() {
+        let line = |power: f32| {
+            let mut bytes = [0; LINE];
+            for (at, value) in [(4, 100_000u32), (8, 100_000), (12, 5_000), (20, 3_000), (24, 3_000)] {
+                bytes[at..at + 4].copy_from_slice(&value.to_le_bytes());
+            }
+            for (at, value) in [(28, power), (32, 3.0), (36, 3.0)] {
+                bytes[at..at + 4].copy_from_slice(&value.to_le_bytes());
+            }
+            bytes
+        };
+        let (earlier, mut later) = (line(100.0), line(111.0));
+        assert_eq!(unit_mark(1, &earlier, &later), 2);
+        assert_eq!(unit_mark(1, &earlier, &line(111.001)), 5);
+        assert_eq!(unit_mark(2, &earlier, &line(89.0)), 2);
+        assert_eq!(unit_mark(2, &earlier, &line(88.999)), 5);
+        for kind in [0, 4, 257, u32::MAX] {
+            assert_eq!(unit_mark(kind, &earlier, &later), 6);
+        }
+        assert_eq!(unit_mark(1, &earlier[..39], &later), 6);
+        assert_eq!(unit_mark(1, &earlier, &[0; 41]), 6);
+        assert_eq!(unit_mark(1, &[], &later), 6);
+        // Conformance mode 1 is unreadable in no chain; so nothing kept, or an unreadable line.
+        later[1] = 1;
+        assert_eq!(unit_mark(1, &earlier, &later), 1);
+        assert_eq!(unit_mark(1, &later, &earlier), 1);
+        // A kept line's quality plays no part.
+        let mut bad = earlier;
+        bad[0] = 2;
+        assert_eq!(unit_mark(1, &bad, &line(112.0)), 5);
+        assert_eq!(unit_mark(1, &earlier, &bad), 1);
+    }
+}

@@ -1,0 +1,903 @@
+//! Random lists of calls, fixed by a seed.
+//!
+//! Good telemetry dominates, so that runs build up; groups wander off target for some intervals and come back. Steering
+//! follows a sketch of the plant and of the lines sent last, never the monitor's answers.
+
+use crate::line::Kind;
+use crate::marks::Triggers;
+use crate::register::Plant;
+use crate::replay::Script;
+
+/// A list ends when it has grown to this many bytes.
+const LONGEST: usize = 160_000;
+const LIMIT: i64 = 2_000_000;
+
+/// The list of a seed.
+pub fn list(seed: u64) -> Vec<u8> {
+    Author::new(seed).write()
+}
+
+/// splitmix64.
+struct Random(u64);
+
+impl Random {
+    fn next(&mut self) -> u64 {
+        self.0 = self.0.wrapping_add(0x9E37_79B9_7F4A_7C15);
+        let mut z = self.0;
+        z = (z ^ (z >> 30)).wrapping_mul(0xBF58_476D_1CE4_E5B9);
+        z = (z ^ (z >> 27)).wrapping_mul(0x94D0_49BB_1331_11EB);
+        z ^ (z >> 31)
+    }
+
+    fn below(&mut self, bound: usize) -> usize {
+        (self.next() % bound as u64) as usize
+    }
+
+    fn within(&mut self, low: i64, high: i64) -> i64 {
+        low + (self.next() % (high - low + 1) as u64) as i64
+    }
+
+    /// True in so many of a thousand.
+    fn chance(&mut self, thousandths: u64) -> bool {
+        self.next() % 1000 < thousandths
+    }
+
+    fn pick<T: Copy>(&mut self, values: &[T]) -> T {
+        values[self.below(values.len())]
+    }
+
+    fn byte(&mut self) -> u8 {
+        self.next() as u8
+    }
+}
+
+/// How far a group is from its targets just now.
+#[derive(Clone, Copy, PartialEq, Eq)]
+enum Course {
+    OnTarget,
+    Small,
+    Large,
+    /// On one side or the other of a trigger, or exactly at it.
+    Edge,
+}
+
+struct Group {
+    /// Index among the aggregates; None for a unit in no chain.
+    aggregate: Option<usize>,
+    units: Vec<usize>,
+    course: Course,
+    /// Signed direction of the error.
+    upward: bool,
+    /// Intervals left on this course.
+    left: u32,
+}
+
+struct Unit {
+    kind: Kind,
+    target: i64,
+    availability: u32,
+    raise: u32,
+    lower: u32,
+    rate: i64,
+    /// Target, raise and lower of the line sent last.
+    sent: Option<(i64, u32, u32)>,
+}
+
+struct Sketch {
+    units: Vec<Unit>,
+    groups: Vec<Group>,
+    aggregates: usize,
+}
+
+/// A line before it becomes bytes.
+#[derive(Clone, Copy)]
+struct Draft {
+    quality: u8,
+    mode: u8,
+    target: i64,
+    availability: u32,
+    raise: u32,
+    lower: u32,
+    bid_up: u32,
+    bid_down: u32,
+    power: i64,
+    scada_up: i64,
+    scada_down: i64,
+}
+
+impl Draft {
+    /// ROC with the target above (1), below (-1) or at (0) the power.
+    fn rate(&self, direction: i64) -> u32 {
+        let up = self.bid_up.min(self.scada_up as u32);
+        let down = self.bid_down.min(self.scada_down as u32);
+        match direction {
+            1 => up,
+            -1 => down,
+            _ => up.min(down),
+        }
+    }
+
+    fn bytes(&self) -> [u8; 40] {
+        let mut bytes = [0; 40];
+        bytes[0] = self.quality;
+        bytes[1] = self.mode;
+        let mut put = |at: usize, word: u32| bytes[at..at + 4].copy_from_slice(&word.to_le_bytes());
+        put(4, self.target as u32);
+        put(8, self.availability);
+        put(12, self.raise);
+        put(16, self.lower);
+        put(20, self.bid_up);
+        put(24, self.bid_down);
+        for (at, kw) in [(28, self.power), (32, self.scada_up), (36, self.scada_down)] {
+            // The float nearest to a whole number of kW turns back into it.
+            put(at, ((kw as f64 / 1000.0) as f32).to_bits());
+        }
+        bytes
+    }
+}
+
+#[derive(Clone, Copy, PartialEq, Eq)]
+enum Modes {
+    Manual,
+    Automatic,
+    Mixed,
+}
+
+struct Author {
+    random: Random,
+    script: Script,
+    sketch: Option<Sketch>,
+    /// Number of the interval sent last.
+    number: Option<u32>,
+    modes: Modes,
+    manual_now: bool,
+    /// Damaged lines and bad telemetry, of a thousand lines of a small plant.
+    noise: u64,
+    /// Operator calls, of a thousand steps.
+    operators: u64,
+    /// Groups stay away from target.
+    stubborn: bool,
+}
+
+impl Author {
+    fn new(seed: u64) -> Self {
+        let mut random = Random(seed);
+        let modes = random.pick(&[Modes::Manual, Modes::Automatic, Modes::Automatic, Modes::Mixed, Modes::Mixed]);
+        let noise = random.pick(&[0, 20, 20, 60, 150]);
+        let operators = random.pick(&[0, 60, 150, 300]);
+        Self {
+            random,
+            script: Script::new(),
+            sketch: None,
+            number: None,
+            modes,
+            manual_now: modes == Modes::Manual,
+            noise,
+            operators,
+            stubborn: false,
+        }
+    }
+
+    fn write(mut self) -> Vec<u8> {
+        if self.random.chance(150) {
+            for _ in 0..self.random.within(1, 4) {
+                self.call_without_register();
+            }
+        }
+        if self.random.chance(40) {
+            self.long_run();
+        } else {
+            let steps = match self.random.below(10) {
+                0 => self.random.within(0, 8),
+                1..=6 => self.random.within(20, 120),
+                _ => self.random.within(120, 500),
+            };
+            self.first_loads();
+            self.steps(steps);
+        }
+        if self.random.chance(80) {
+            self.script_error();
+        }
+        self.script.into_bytes()
+    }
+
+    fn call_without_register(&mut self) {
+        match self.random.below(5) {
+            0 => {
+                let register = self.damaged_register();
+                self.script.load(&register);
+            }
+            1 => {
+                let length = self.random.pick(&[0, 7, 8, 48, 88]);
+                let buffer: Vec<u8> = (0..length).map(|_| self.random.byte()).collect();
+                self.script.interval(16, &buffer);
+            }
+            2 => self.script.declare(1, 0),
+            3 => self.script.reinstate(0),
+            _ => self.script.look(1),
+        }
+    }
+
+    fn first_loads(&mut self) {
+        while self.random.chance(500) {
+            let register = self.damaged_register();
+            self.script.load(&register);
+        }
+        if !self.random.chance(15) {
+            self.load_sound(None);
+        }
+    }
+
+    fn steps(&mut self, steps: i64) {
+        for _ in 0..steps {
+            if self.script.len() > LONGEST {
+                break;
+            }
+            let spent = self.number == Some(u32::MAX);
+            if self.random.chance(if spent { 300 } else { 12 }) {
+                if self.random.chance(600) {
+                    let register = self.damaged_register();
+                    self.script.load(&register);
+                } else {
+                    self.load_sound(None);
+                }
+            } else if self.random.chance(self.operators) {
+                self.operator_calls();
+            } else {
+                self.interval();
+            }
+        }
+    }
+
+    /// Runs that pass 255 in manual mode, then often a backlog that declares in automatic mode.
+    fn long_run(&mut self) {
+        let units = self.random.below(3) + 1;
+        self.load_sound(Some(units));
+        self.modes = Modes::Manual;
+        self.manual_now = true;
+        self.stubborn = true;
+        self.noise = self.random.pick(&[0, 0, 3]);
+        self.operators = self.random.pick(&[0, 0, 5]);
+        for _ in 0..self.random.within(262, 330) {
+            if self.random.chance(self.operators) {
+                self.operator_calls();
+            } else {
+                self.interval();
+            }
+        }
+        self.operator_calls();
+        self.modes = Modes::Mixed;
+        self.stubborn = false;
+        self.operators = 300;
+        let steps = self.random.within(0, 40);
+        self.steps(steps);
+    }
+
+    // Registers.
+
+    /// Bytes of an acceptable register and the sketch of its plant.
+    fn sound_register(&mut self, small_plant: Option<usize>) -> (Vec<u8>, Sketch) {
+        let random = &mut self.random;
+        let n = small_plant.unwrap_or_else(|| match random.below(100) {
+            0..=39 => random.below(4) + 1,
+            40..=79 => random.below(5) + 4,
+            80..=92 => random.below(12) + 9,
+            93..=95 => random.below(44) + 21,
+            _ => 64,
+        });
+        let mut shuffled: Vec<usize> = (0..n).collect();
+        for i in (1..n).rev() {
+            shuffled.swap(i, random.below(i + 1));
+        }
+        let mut chains: Vec<Vec<usize>> = Vec::new();
+        if random.chance(850) {
+            let longest = random.pick(&[1, 2, 3, 4, 5, 64]);
+            while !shuffled.is_empty() && chains.len() < 16 {
+                let length = if longest == 64 { shuffled.len() } else { random.below(longest) + 1 };
+                let length = length.min(shuffled.len());
+                chains.push(shuffled.split_off(shuffled.len() - length));
+                if random.chance(250) {
+                    break;
+                }
+            }
+        }
+        let mut bytes = vec![n as u8, chains.len() as u8];
+        for _ in 0..2 {
+            bytes.extend(match random.below(20) {
+                0..=10 => [2, 3, 4],
+                11..=16 => {
+                    let low = random.within(2, 4) as u8;
+                    let middle = low + random.within(1, 2) as u8;
+                    [low, middle, middle + random.within(1, 3) as u8]
+                }
+                17 => [2, 9, 20],
+                18 => [2, 254, 255],
+                _ => {
+                    let low = random.within(2, 253) as u8;
+                    let middle = random.within(i64::from(low) + 1, 254) as u8;
+                    [low, middle, random.within(i64::from(middle) + 1, 255) as u8]
+                }
+            });
+        }
+        bytes.extend([0; 8]);
+        let mut next = vec![0; n];
+        for chain in &chains {
+            for pair in chain.windows(2) {
+                next[pair[0]] = pair[1] as u8 + 1;
+            }
+        }
+        let one_kind = random.chance(200).then(|| random.within(1, 3) as u8);
+        let mut units = Vec::new();
+        for next in next {
+            let kind = one_kind.unwrap_or_else(|| random.within(1, 3) as u8);
+            bytes.extend([kind, next, 0, 0]);
+            units.push(sketch_unit(random, Kind::of(u32::from(kind)).unwrap_or(Kind::Generating)));
+        }
+        let mut groups = Vec::new();
+        let fresh = |aggregate, units| Group { aggregate, units, course: Course::OnTarget, upward: true, left: 1 };
+        for (aggregate, chain) in chains.iter().enumerate() {
+            bytes.extend([chain[0] as u8 + 1, 0, 0, 0]);
+            groups.push(fresh(Some(aggregate), chain.clone()));
+        }
+        shuffled.sort_unstable();
+        groups.extend(shuffled.iter().map(|&unit| fresh(None, vec![unit])));
+        (bytes, Sketch { units, groups, aggregates: chains.len() })
+    }
+
+    fn load_sound(&mut self, small_plant: Option<usize>) {
+        let (bytes, sketch) = self.sound_register(small_plant);
+        self.script.load(&bytes);
+        self.sketch = Some(sketch);
+        self.number = None;
+    }
+
+    fn damaged_register(&mut self) -> Vec<u8> {
+        loop {
+            let (mut bytes, sketch) = self.sound_register(None);
+            let n = sketch.units.len();
+            self.damage_register(&mut bytes, n);
+            // A second damage tries the order of the refusals.
+            if self.random.chance(250) {
+                self.damage_register(&mut bytes, n);
+            }
+            // Damage that hit nothing would leave the sketch behind.
+            if Plant::load(&bytes).is_err() {
+                return bytes;
+            }
+        }
+    }
+
+    fn damage_register(&mut self, bytes: &mut Vec<u8>, n: usize) {
+        let random = &mut self.random;
+        let m = bytes.len().saturating_sub(16 + 4 * n) / 4;
+        let unit = 16 + 4 * random.below(n);
+        let heads = 16 + 4 * n;
+        let head = heads + 4 * random.below(m.max(1));
+        let some_unit = random.within(1, n as i64) as u8;
+        match random.below(12) {
+            0 => bytes.truncate(random.below(16)),
+            1 => match random.below(4) {
+                0 => bytes.push(0),
+                1 => bytes.extend([1, 0, 0, 0]),
+                2 => bytes.truncate(bytes.len().saturating_sub(1)),
+                _ => bytes.truncate(bytes.len().saturating_sub(4)),
+            },
+            2 => match random.below(3) {
+                0 => set(bytes, 0, 0),
+                1 => set(bytes, 0, random.pick(&[65, 66, 128, 255])),
+                _ => set(bytes, 1, random.pick(&[17, 18, 64, 255])),
+            },
+            3 => {
+                // One of the two runs: below 2, two lengths equal, or out of order.
+                let at = random.pick(&[2, 5]);
+                let [low, middle] = [get(bytes, at), get(bytes, at + 1)];
+                match random.below(5) {
+                    0 => set(bytes, at, random.pick(&[0, 1])),
+                    1 => set(bytes, at + 1, low),
+                    2 => set(bytes, at + 2, middle),
+                    3 => set(bytes, at + 2, low),
+                    _ => set(bytes, at + random.below(3), random.byte()),
+                }
+            }
+            4 => match random.below(4) {
+                0 => set(bytes, 8 + random.below(8), random.pick(&[1, 2, 255])),
+                1 => set(bytes, unit, random.pick(&[0, 4, 5, 255])),
+                2 => set(bytes, unit + 2 + random.below(2), random.pick(&[1, 128])),
+                _ => set(bytes, head + 1 + random.below(3), random.pick(&[1, 255])),
+            },
+            5 => match random.below(4) {
+                0 | 1 => set(bytes, unit + 1, random.pick(&[n as u8 + 1, 65, 255])),
+                2 => set(bytes, head, 0),
+                _ => set(bytes, head, random.pick(&[n as u8 + 1, 255])),
+            },
+            6 | 7 => {
+                // Two equal heads, or a chain into a chain's head or into its own unit.
+                if m > 1 && random.chance(300) {
+                    let first = get(bytes, heads);
+                    set(bytes, heads + 4, first);
+                } else {
+                    let into = get(bytes, head);
+                    let mut at = usize::from(get(bytes, heads));
+                    for _ in 0..random.below(3) {
+                        let next = usize::from(get(bytes, 13 + 4 * at));
+                        at = if next == 0 { at } else { next };
+                    }
+                    set(bytes, 13 + 4 * at, random.pick(&[into, into, at as u8]));
+                }
+            }
+            8 | 9 => {
+                // A next in a unit that no chain meets, or a chain cut off behind its head.
+                if m > 0 && random.chance(500) {
+                    bytes.truncate(heads);
+                    set(bytes, 1, 0);
+                    set(bytes, unit + 1, some_unit);
+                } else if m > 0 {
+                    let first = usize::from(get(bytes, head));
+                    set(bytes, 13 + 4 * first, 0);
+                } else {
+                    set(bytes, unit + 1, some_unit);
+                }
+            }
+            _ => {
+                let at = random.below(bytes.len().max(1));
+                set(bytes, at, random.byte());
+            }
+        }
+    }
+
+    // Intervals.
+
+    fn interval(&mut self) {
+        let Some(mut sketch) = self.sketch.take() else {
+            self.script.interval(16, &[0; 48]);
+            return;
+        };
+        let long_run = self.stubborn;
+        if self.modes == Modes::Mixed && self.random.chance(120) {
+            self.manual_now = !self.manual_now;
+        }
+        let (number, rising) = self.next_number(long_run);
+        let mut accepted = rising;
+        let mut buffer = number.to_le_bytes().to_vec();
+        buffer.extend([u8::from(!self.manual_now), 0, 0, 0]);
+        let rough = if long_run { 2 } else { 12 };
+        if self.random.chance(rough) {
+            accepted = false;
+            match self.random.below(3) {
+                0 => buffer[4] = self.random.pick(&[2, 3, 128, 255]),
+                1 => buffer[5 + self.random.below(3)] = self.random.pick(&[1, 255]),
+                _ => {
+                    buffer[4] = 2;
+                    buffer[7] = 1;
+                }
+            }
+        }
+        let mut drafts = vec![None; sketch.units.len()];
+        for index in 0..sketch.groups.len() {
+            self.draft_group(&mut sketch, index, &mut drafts);
+        }
+        let in_chains: usize =
+            sketch.groups.iter().filter(|group| group.aggregate.is_some()).map(|group| group.units.len()).sum();
+        let noise = self.noise * 8 / (8 + in_chains as u64);
+        let mut sent = Vec::with_capacity(drafts.len());
+        for draft in drafts.iter().flatten() {
+            let mut bytes = draft.bytes();
+            let mut kept = true;
+            if self.random.chance(noise) {
+                kept = self.damage_line(&mut bytes);
+            } else if self.random.chance(noise + 10) {
+                self.odd_floats(&mut bytes);
+            }
+            buffer.extend(bytes);
+            sent.push(kept.then_some((draft.target, draft.raise, draft.lower)));
+        }
+        let mut report = 16 * (sketch.units.len() + sketch.aggregates) as u32;
+        if self.random.chance(rough) {
+            accepted = false;
+            match self.random.below(6) {
+                0 => buffer.truncate(buffer.len() - 1),
+                1 => buffer.push(0),
+                2 => buffer.truncate(buffer.len() - 40),
+                3 => buffer.extend([0; 40]),
+                4 => buffer.truncate(self.random.below(9)),
+                _ => buffer.clear(),
+            }
+        }
+        if self.random.chance(rough) {
+            accepted = false;
+            report = match self.random.below(5) {
+                0 => 0,
+                1 => report - 1,
+                2 => report + 1,
+                3 => report + 16,
+                _ => report - 16,
+            };
+        }
+        self.script.interval(report, &buffer);
+        if accepted {
+            self.number = Some(number);
+            for (unit, sent) in sketch.units.iter_mut().zip(sent) {
+                unit.sent = sent;
+            }
+        }
+        self.sketch = Some(sketch);
+    }
+
+    /// A number, and whether it is above the last.
+    fn next_number(&mut self, long_run: bool) -> (u32, bool) {
+        let random = &mut self.random;
+        let Some(last) = self.number else {
+            let first = match random.below(12) {
+                0 => 0,
+                1 => 1,
+                2 => u32::MAX - random.below(60) as u32,
+                3 => random.next() as u32,
+                _ => random.below(1_000) as u32,
+            };
+            return (first, true);
+        };
+        let number = match random.below(if long_run { 600 } else { 60 }) {
+            0 => last.saturating_add(2),
+            1 => last.saturating_add(2 + random.below(1_000) as u32),
+            2 => last,
+            3 => last.saturating_sub(1),
+            4 => random.pick(&[0, last / 2, last.wrapping_add(1), last, last.saturating_sub(2)]),
+            5 if random.chance(80) => u32::MAX - random.below(3) as u32,
+            _ => last.wrapping_add(1),
+        };
+        (number, number > last)
+    }
+
+    fn draft_group(&mut self, sketch: &mut Sketch, index: usize, drafts: &mut [Option<Draft>]) {
+        let random = &mut self.random;
+        let Sketch { units, groups, .. } = sketch;
+        let group = &mut groups[index];
+        group.left = group.left.saturating_sub(1);
+        if group.left == 0 {
+            let away = if self.stubborn { 990 } else { 550 };
+            group.course = if random.chance(away) {
+                random.pick(&[Course::Small, Course::Small, Course::Large, Course::Large, Course::Edge])
+            } else {
+                Course::OnTarget
+            };
+            if self.stubborn && group.course == Course::Edge {
+                group.course = Course::Small;
+            }
+            group.upward = random.chance(500);
+            group.left = match group.course {
+                Course::OnTarget => random.within(1, 4) as u32,
+                _ if self.stubborn => random.within(100, 900) as u32,
+                _ => random.within(1, 9) as u32,
+            };
+        }
+        if random.chance(100) {
+            group.upward = !group.upward;
+        }
+        let member = group.aggregate.is_some();
+        let odd = 1 + 40 / group.units.len() as u64;
+        let odd = if self.stubborn { odd / 8 } else { odd };
+        // The whole aggregate off for one interval.
+        let all_off = member && !self.stubborn && random.chance(25);
+        for &unit in &group.units {
+            let mut draft = draft_unit(random, &mut units[unit], group.course, group.upward, self.stubborn);
+            if member {
+                draft.mode = 2;
+                if all_off {
+                    draft.mode = 0;
+                } else if !self.stubborn && random.chance(odd) {
+                    draft.mode = random.below(2) as u8;
+                }
+            }
+            if random.chance(odd) {
+                draft.quality = 1;
+            } else if random.chance(odd / 2) {
+                draft.quality = 2;
+            }
+            drafts[unit] = Some(draft);
+        }
+        if member && group.course != Course::OnTarget && (self.stubborn || random.chance(600)) {
+            tune_aggregate(random, units, group, drafts, self.stubborn);
+        }
+    }
+
+    /// Damages a line, or brings it to a bound; tells whether it can still be read.
+    fn damage_line(&mut self, bytes: &mut [u8; 40]) -> bool {
+        let random = &mut self.random;
+        let mut put = |at: usize, word: u32| bytes[at..at + 4].copy_from_slice(&word.to_le_bytes());
+        match random.below(11) {
+            0 => bytes[0] = random.pick(&[3, 4, 128, 255]),
+            1 => bytes[1] = random.pick(&[1, 2, 3, 4, 255]),
+            2 => bytes[2 + random.below(2)] = random.pick(&[1, 128]),
+            3 => put(4, random.pick(&[-1, 2_000_001, -2_000_000, -2_000_001, i32::MIN, i32::MAX]) as u32),
+            4 => put(8 + 4 * random.below(5), random.pick(&[2_000_001, 2_000_001, u32::MAX, 0x8000_0000])),
+            5 => put(28, random.pick(&UNREADABLE_POWERS)),
+            6 => put(32 + 4 * random.below(2), random.pick(&UNREADABLE_RATES)),
+            7 => bytes[random.below(40)] = random.byte(),
+            8 => {
+                put(4, 2_000_000);
+                return true;
+            }
+            9 => {
+                // With quality 2 the floats are not read.
+                bytes[0] = 2;
+                bytes[28..40].fill_with(|| random.byte());
+                return true;
+            }
+            _ => {
+                put(8 + 4 * random.below(5), random.pick(&[0, 2_000_000]));
+                return true;
+            }
+        }
+        false
+    }
+
+    /// Floats at bounds, at halves and beside them, still readable.
+    fn odd_floats(&mut self, bytes: &mut [u8; 40]) {
+        let random = &mut self.random;
+        let at = random.pick(&[28, 28, 32, 36]);
+        let old = u32::from_le_bytes([bytes[at], bytes[at + 1], bytes[at + 2], bytes[at + 3]]);
+        let bits = match random.below(6) {
+            0 => random.pick(&[0, 0x8000_0000, 1, 0x007F_FFFF, 0x0080_0000, 0x44FA_0000, 0x44F9_FFFF, 0x3D80_0000]),
+            // The odd sixteenths nearest: halves of a kW, and the floats beside them.
+            1..=3 => {
+                let sixteenths = (f32::from_bits(old).abs() * 16.0) as u32;
+                let half = ((sixteenths | 1) as f32 / 16.0).to_bits() | (old & 0x8000_0000);
+                random.pick(&[half, half, half - 1, half + 1])
+            }
+            4 => old ^ 1,
+            _ if at == 28 => random.pick(&[0x8000_0001, 0xC4FA_0000, 0xC4F9_FFFF, 0xBD80_0000, 0xBA03_126F]),
+            _ => old ^ 2,
+        };
+        bytes[at..at + 4].copy_from_slice(&bits.to_le_bytes());
+    }
+
+    // Operator calls.
+
+    fn operator_calls(&mut self) {
+        let points = self.sketch.as_ref().map_or(1, |sketch| sketch.units.len() + sketch.aggregates) as u32;
+        let units = self.sketch.as_ref().map_or(1, |sketch| sketch.units.len()) as u32;
+        let random = &mut self.random;
+        if random.chance(80) {
+            for point in 1..=points.min(20) {
+                self.script.reinstate(point);
+            }
+            return;
+        }
+        let point = match random.below(20) {
+            0 => 0,
+            1 => points + 1,
+            2 => {
+                let low = random.within(1, i64::from(points)) as u32;
+                random.pick(&[256, 65_536, 0x8000_0000]) + low
+            }
+            3 => random.pick(&[u32::MAX, random_word(points)]),
+            4..=9 if points > units => units + 1 + random.below((points - units) as usize) as u32,
+            _ => random.within(1, i64::from(points)) as u32,
+        };
+        let level = match random.below(12) {
+            0 => 128_000_000,
+            1 => -128_000_000,
+            2 => 128_000_001,
+            3 => -128_000_001,
+            4 => random.pick(&[i32::MIN, i32::MAX]),
+            5 => 0,
+            6 => random.next() as i32,
+            _ => random.within(-300_000, 300_000) as i32,
+        };
+        match random.below(6) {
+            0 => self.script.look(point),
+            1 => self.script.declare(point, level),
+            2 => {
+                self.script.declare(point, level);
+                self.script.look(point);
+            }
+            3 => self.script.reinstate(point),
+            4 => {
+                self.script.reinstate(point);
+                self.script.look(point);
+            }
+            _ => {
+                self.script.declare(point, level);
+                self.script.look(point);
+                self.script.reinstate(point);
+                self.script.look(point);
+            }
+        }
+    }
+
+    /// A call that cannot be read, and a look behind it that must not answer.
+    fn script_error(&mut self) {
+        match self.random.below(8) {
+            0 => return self.script.raw(&[5]),
+            1 => return self.script.raw(&[5, 0, 0, 0, 4, 0, 0]),
+            2 => return self.script.raw(&[1, 0, 0, 0, 20, 0, 0, 0, 1, 0, 2, 3, 4]),
+            3 => {
+                let tag = self.random.pick(&[0, 6, 7, 255, 256, u32::MAX]);
+                self.script.call(tag, &[1, 0, 0, 0]);
+            }
+            4 => {
+                let (tag, length) = self.random.pick(&[(3, 4), (3, 12), (4, 0), (4, 8), (5, 3), (5, 5)]);
+                self.script.call(tag, &vec![1; length]);
+            }
+            5 => {
+                let tag = self.random.pick(&[1, 2]);
+                self.script.call(tag, &[0; 8_193]);
+            }
+            6 => self.script.interval(4_097, &[0; 48]),
+            _ => return self.script.raw(&[5, 0, 0, 0, 255, 255, 255, 255, 1, 0, 0, 0]),
+        }
+        self.script.look(1);
+    }
+}
+
+const UNREADABLE_POWERS: [u32; 8] =
+    [0x44FA_0001, 0xC4FA_0001, 0x7FC0_0000, 0xFFC0_0000, 0x7F80_0000, 0xFF80_0000, 0x7F80_0001, 0x7F7F_FFFF];
+const UNREADABLE_RATES: [u32; 8] =
+    [0x44FA_0001, 0x8000_0001, 0x7FC0_0000, 0x7F80_0000, 0xFF80_0000, 0xBF80_0000, 0xFFFF_FFFF, 0x807F_FFFF];
+
+fn random_word(points: u32) -> u32 {
+    points.wrapping_mul(0x9E37_79B1) | 0x100
+}
+
+fn get(bytes: &[u8], at: usize) -> u8 {
+    bytes.get(at).copied().unwrap_or(0)
+}
+
+fn set(bytes: &mut [u8], at: usize, value: u8) {
+    if let Some(byte) = bytes.get_mut(at) {
+        *byte = value;
+    }
+}
+
+fn sketch_unit(random: &mut Random, kind: Kind) -> Unit {
+    let target = match random.below(10) {
+        0 => 0,
+        1 => random.within(0, LIMIT),
+        _ => random.within(30_000, 300_000),
+    };
+    let regulation = |random: &mut Random| match random.below(5) {
+        0 | 1 => 0,
+        2 => 5_000,
+        3 => random.within(0, 3_000) as u32,
+        _ => random.within(0, 30_000) as u32,
+    };
+    Unit {
+        kind,
+        target: if kind == Kind::Bidirectional && random.chance(500) { -target } else { target },
+        availability: match random.below(8) {
+            0 => random.within(0, 120_000) as u32,
+            1 => 200_000,
+            2 => random.within(0, LIMIT) as u32,
+            _ => random.within(180_000, 600_000) as u32,
+        },
+        raise: regulation(random),
+        lower: regulation(random),
+        rate: match random.below(6) {
+            0 => random.within(0, 3_000),
+            1 => random.within(0, 60_000),
+            _ => random.within(3_000, 12_000),
+        },
+        sent: None,
+    }
+}
+
+/// A line on the group's course. A stubborn one stays away for good.
+fn draft_unit(random: &mut Random, unit: &mut Unit, course: Course, upward: bool, stubborn: bool) -> Draft {
+    let lowest = if unit.kind == Kind::Bidirectional { -LIMIT } else { 0 };
+    unit.target = (unit.target + random.within(-4_000, 4_000)).clamp(lowest, LIMIT);
+    let target = match random.below(60) {
+        0 if !stubborn => lowest,
+        1 if !stubborn => LIMIT,
+        _ => unit.target,
+    };
+    let near = |random: &mut Random, rate: i64| (rate + random.within(-200, 900)).clamp(0, LIMIT);
+    let mut draft = Draft {
+        quality: 0,
+        mode: 0,
+        target,
+        availability: unit.availability,
+        raise: if random.chance(900) { unit.raise } else { random.within(0, 9_000) as u32 },
+        lower: if random.chance(900) { unit.lower } else { random.within(0, 9_000) as u32 },
+        bid_up: near(random, unit.rate) as u32,
+        bid_down: near(random, unit.rate) as u32,
+        power: target,
+        scada_up: near(random, unit.rate),
+        scada_down: near(random, unit.rate),
+    };
+    let (kept_target, raise, lower) = unit.sent.unwrap_or((target, 0, 0));
+    let (up, down) = if unit.kind == Kind::Load { (lower, raise) } else { (raise, lower) };
+    let (up, down) = (i64::from(up), i64::from(down));
+    // A few members of a group that is away stay on target.
+    let course = if !stubborn && random.chance(120) { Course::OnTarget } else { course };
+    // In the group's signed direction: a load's own goes the other way.
+    let upward = upward != (unit.kind == Kind::Load);
+    let at_error = |error: i64| if upward { kept_target + up + error } else { kept_target - down - error };
+    draft.power = match course {
+        Course::OnTarget if random.chance(250) => target,
+        Course::OnTarget => kept_target + random.within(-down - 5_000, up + 5_000),
+        _ => {
+            // Two guesses at the direction that the power will decide.
+            let mut power = kept_target;
+            let pick = random.below(6);
+            let beyond = random.within(1, 12_000);
+            let share = random.within(0, 1_000);
+            for guess in [if upward { -1 } else { 1 }, if upward { 1 } else { -1 }] {
+                let Triggers { small, large } = Triggers::of(draft.availability, draft.rate(guess));
+                let (small, large) = (i64::from(small) / 100, i64::from(large) / 100);
+                let error = match course {
+                    Course::Small => small + 1 + (large - small) * share / 1_000 - i64::from(share == 1_000),
+                    Course::Large => large + beyond,
+                    _ => [small, small + 1, large, large + 1, small - 1, large][pick],
+                };
+                power = at_error(error);
+                if (target - power).signum() == guess {
+                    break;
+                }
+            }
+            power
+        }
+    };
+    draft.power = draft.power.clamp(-LIMIT, LIMIT);
+    draft
+}
+
+/// Moves one member's power so that the aggregate's error comes to lie at or between its triggers.
+fn tune_aggregate(random: &mut Random, units: &[Unit], group: &Group, drafts: &mut [Option<Draft>], stubborn: bool) {
+    let mut target = 0;
+    let mut power = 0;
+    let mut kept_target = 0;
+    let (mut up, mut down) = (0, 0);
+    let mut availability = [0u32; 2];
+    for &unit in &group.units {
+        let (Some(draft), Some((sent, raise, lower))) = (&drafts[unit], units[unit].sent) else { return };
+        let load = units[unit].kind == Kind::Load;
+        let sign = if load { -1 } else { 1 };
+        target += sign * draft.target;
+        power += sign * draft.power;
+        kept_target += sign * sent;
+        up += i64::from(raise);
+        down += i64::from(lower);
+        availability[usize::from(load)] += draft.availability;
+    }
+    let place = if stubborn { 6 } else { random.below(7) };
+    let share = random.within(0, 1_000);
+    for guess in [-1, 1, 0] {
+        let mut rates = [0u32; 2];
+        for &unit in &group.units {
+            let Some(draft) = &drafts[unit] else { return };
+            let load = units[unit].kind == Kind::Load;
+            rates[usize::from(load)] += draft.rate(if load { -guess } else { guess });
+        }
+        let found = Triggers::of(availability[0].max(availability[1]), rates[0].max(rates[1]));
+        let (small, large) = (i64::from(found.small) / 100, i64::from(found.large) / 100);
+        let error = match (group.course, place) {
+            (Course::Edge, _) => [small, small + 1, large, large + 1, small - 1, small, large + 1][place],
+            (Course::Small, _) | (_, 0 | 1) => small + 1 + (large - small) * share / 1_000 - i64::from(share == 1_000),
+            _ => large + 1 + share,
+        };
+        let wanted = if group.upward { kept_target + up + error } else { kept_target - down - error };
+        if (target - wanted).signum() != guess {
+            continue;
+        }
+        let unit = random.pick(&group.units);
+        let sign = if units[unit].kind == Kind::Load { -1 } else { 1 };
+        if let Some(draft) = &mut drafts[unit] {
+            let moved = draft.power + sign * (wanted - power);
+            if moved.abs() <= LIMIT {
+                draft.power = moved;
+            }
+        }
+        return;
+    }
+}
+
+#[cfg(test)]
+mod tests {
+    use super::*;
+
+    #[test]
+    fn fixed_by_the_seed() {
+        assert_eq!(list(7), list(7));
+        assert_ne!(list(7), list(8));
+    }
+}

@@ -1,0 +1,266 @@
+//! Runs any list of calls from bytes and prints one answer a call.
+//!
+//! A call is a u32 tag, a u32 payload length and the payload, little-endian: 1 load (register), 2 interval (u32 length
+//! of the report buffer, then the interval buffer), 3 declare (u32 point, i32 level), 4 reinstate (u32 point), 5 look
+//! (u32 point).
+
+use crate::monitor::{Look, Monitor};
+use crate::program::{interval_number, print_report};
+use crate::refusal::Refusal;
+use std::io::{self, Write};
+
+pub const LOAD: u32 = 1;
+pub const INTERVAL: u32 = 2;
+pub const DECLARE: u32 = 3;
+pub const REINSTATE: u32 = 4;
+pub const LOOK: u32 = 5;
+
+pub const MAX_PAYLOAD: usize = 8_192;
+pub const MAX_REPORT: usize = 4_096;
+
+/// One call of a list.
+#[derive(Clone, Copy, PartialEq, Eq, Debug)]
+pub enum Call<'a> {
+    Load(&'a [u8]),
+    Interval { report: usize, buffer: &'a [u8] },
+    Declare { point: u32, level: i32 },
+    Reinstate { point: u32 },
+    Look { point: u32 },
+}
+
+/// The calls of a list; an error is the place of the tag of a call that cannot be read, and ends the list.
+pub struct Calls<'a> {
+    bytes: &'a [u8],
+    at: usize,
+    ended: bool,
+}
+
+impl<'a> Calls<'a> {
+    pub fn new(bytes: &'a [u8]) -> Self {
+        Self { bytes, at: 0, ended: false }
+    }
+}
+
+impl<'a> Iterator for Calls<'a> {
+    type Item = Result<Call<'a>, usize>;
+
+    fn next(&mut self) -> Option<Self::Item> {
+        let rest = self.bytes.get(self.at..).filter(|rest| !rest.is_empty() && !self.ended)?;
+        let place = self.at;
+        match read_call(rest) {
+            Some((call, length)) => {
+                self.at += length;
+                Some(Ok(call))
+            }
+            None => {
+                self.ended = true;
+                Some(Err(place))
+            }
+        }
+    }
+}
+
+fn word(bytes: &[u8]) -> Option<(u32, &[u8])> {
+    let (first, rest) = bytes.split_first_chunk()?;
+    Some((u32::from_le_bytes(*first), rest))
+}
+
+fn only_word(bytes: &[u8]) -> Option<u32> {
+    word(bytes).filter(|(_, rest)| rest.is_empty()).map(|(value, _)| value)
+}
+
+/// A call and the bytes it takes.
+fn read_call(bytes: &[u8]) -> Option<(Call<'_>, usize)> {
+    let (tag, rest) = word(bytes)?;
+    let (length, rest) = word(rest)?;
+    let length = usize::try_from(length).ok().filter(|&length| length <= MAX_PAYLOAD)?;
+    let payload = rest.get(..length)?;
+    let call = match tag {
+        LOAD => Call::Load(payload),
+        INTERVAL => {
+            let (report, buffer) = word(payload)?;
+            let report = usize::try_from(report).ok().filter(|&report| report <= MAX_REPORT)?;
+            Call::Interval { report, buffer }
+        }
+        DECLARE => {
+            let (point, rest) = word(payload)?;
+            Call::Declare { point, level: only_word(rest)? as i32 }
+        }
+        REINSTATE => Call::Reinstate { point: only_word(payload)? },
+        LOOK => Call::Look { point: only_word(payload)? },
+        _ => return None,
+    };
+    Some((call, 8 + length))
+}
+
+/// Runs the list on a monitor without a register.
+pub fn run(bytes: &[u8], out: &mut impl Write) -> io::Result<()> {
+    let mut monitor = Monitor::new();
+    let mut report = [0; MAX_REPORT];
+    for call in Calls::new(bytes) {
+        match call {
+            Ok(Call::Load(register)) => match monitor.load(register) {
+                Ok(visits) => writeln!(out, "load accepted {visits}")?,
+                Err(refusal) => writeln!(out, "load {refusal}")?,
+            },
+            Ok(Call::Interval { report: length, buffer }) => {
+                let report = &mut report[..length];
+                print_plain(out, "interval", monitor.interval(buffer, report), |out| {
+                    print_report(out, interval_number(buffer), report)
+                })?;
+            }
+            Ok(Call::Declare { point, level }) => {
+                print_plain(out, "declare", monitor.declare(point, level), |_| Ok(()))?;
+            }
+            Ok(Call::Reinstate { point }) => {
+                print_plain(out, "reinstate", monitor.reinstate(point), |_| Ok(()))?;
+            }
+            Ok(Call::Look { point }) => match monitor.look(point) {
+                Ok(Look { status, small, large, level }) => {
+                    writeln!(out, "look accepted {status} {small} {large} {level}")?;
+                }
+                Err(refusal) => writeln!(out, "look {refusal}")?,
+            },
+            Err(place) => writeln!(out, "script error at byte {place}")?,
+        }
+    }
+    Ok(())
+}
+
+fn print_plain<W: Write>(
+    out: &mut W,
+    name: &str,
+    answer: Result<(), Refusal>,
+    then: impl FnOnce(&mut W) -> io::Result<()>,
+) -> io::Result<()> {
+    match answer {
+        Ok(()) => {
+            writeln!(out, "{name} accepted")?;
+            then(out)
+        }
+        Err(refusal) => writeln!(out, "{name} {refusal}"),
+    }
+}
+
+/// Calls as bytes, one after the other.
+#[derive(Clone, Debug, Default)]
+pub struct Script {
+    bytes: Vec<u8>,
+}
+
+impl Script {
+    pub fn new() -> Self {
+        Self::default()
+    }
+
+    /// Any tag and payload, readable or not.
+    pub fn call(&mut self, tag: u32, payload: &[u8]) {
+        self.bytes.extend(tag.to_le_bytes());
+        self.bytes.extend((payload.len() as u32).to_le_bytes());
+        self.bytes.extend(payload);
+    }
+
+    pub fn load(&mut self, register: &[u8]) {
+        self.call(LOAD, register);
+    }
+
+    pub fn interval(&mut self, report: u32, buffer: &[u8]) {
+        self.call(INTERVAL, &[&report.to_le_bytes()[..], buffer].concat());
+    }
+
+    pub fn declare(&mut self, point: u32, level: i32) {
+        self.call(DECLARE, &[point.to_le_bytes(), level.to_le_bytes()].concat());
+    }
+
+    pub fn reinstate(&mut self, point: u32) {
+        self.call(REINSTATE, &point.to_le_bytes());
+    }
+
+    pub fn look(&mut self, point: u32) {
+        self.call(LOOK, &point.to_le_bytes());
+    }
+
+    /// Bytes so far.
+    pub fn len(&self) -> usize {
+        self.bytes.len()
+    }
+
+    pub fn is_empty(&self) -> bool {
+        self.bytes.is_empty()
+    }
+
+    /// Bytes that are no whole call.
+    pub fn raw(&mut self, bytes: &[u8]) {
+        self.bytes.extend(bytes);
+    }
+
+    pub fn into_bytes(self) -> Vec<u8> {
+        self.bytes
+    }
+}
+
+#[cfg(test)]
+mod tests {
+    use super::*;
+
+    fn text(bytes: &[u8]) -> String {
+        let mut out = Vec::new();
+        run(bytes, &mut out).unwrap();
+        String::from_utf8(out).unwrap()
+    }
+
+    #[test]
+    fn before_a_register() {
+        let mut script = Script::new();
+        script.interval(7, &[1, 2]);
+        script.declare(0, i32::MIN);
+        script.reinstate(0);
+        script.look(0);
+        script.load(&[]);
+        assert_eq!(
+            text(&script.into_bytes()),
+            "interval refused 20\ndeclare refused 20\nreinstate refused 20\nlook refused 20\nload refused 1\n"
+        );
+        assert_eq!(text(&[]), "");
+    }
+
+    #[test]
+    fn script_errors() {
+        let mut good = Script::new();
+        good.look(1);
+        let good = good.into_bytes();
+        let after = |tail: &[u8]| text(&[&good[..], tail].concat());
+        let error = "look refused 20\nscript error at byte 12\n";
+        assert_eq!(after(&[]), "look refused 20\n");
+        assert_eq!(after(&[5]), error);
+        assert_eq!(after(&[5, 0, 0, 0, 4, 0, 0]), error);
+        assert_eq!(after(&[5, 0, 0, 0, 4, 0, 0, 0, 1, 0, 0]), error);
+        let call = |tag: u32, payload: &[u8]| {
+            let mut script = Script::new();
+            script.call(tag, payload);
+            script.look(1);
+            script.into_bytes()
+        };
+        for (tag, length) in [
+            (0, 0),
+            (6, 4),
+            (7, 8),
+            (256, 4),
+            (3, 4),
+            (3, 9),
+            (4, 3),
+            (4, 8),
+            (5, 0),
+            (5, 5),
+            (1, 8_193),
+            (2, 8_193),
+            (2, 3),
+            (2, 0),
+        ] {
+            assert_eq!(after(&call(tag, &vec![0; length])), error, "{tag} {length}");
+        }
+        assert_eq!(after(&call(2, &4_097u32.to_le_bytes())), error);
+        assert!(after(&call(2, &4_096u32.to_le_bytes())).ends_with("interval refused 20\nlook refused 20\n"));
+        assert!(after(&call(1, &[0; 8_192])).ends_with("load refused 2\nlook refused 20\n"));
+    }
+}

@@ -1,0 +1,344 @@
+//! Calls on the monitor, and the program on the data folders.
+
+use conformance::monitor::Record;
+use conformance::{program, Look, Monitor};
+
+fn register(lengths: [u8; 6], units: &[(u8, u8)], heads: &[u8]) -> Vec<u8> {
+    let mut bytes = vec![units.len() as u8, heads.len() as u8];
+    bytes.extend(lengths);
+    bytes.extend([0; 8]);
+    for &(kind, next) in units {
+        bytes.extend([kind, next, 0, 0]);
+    }
+    for &head in heads {
+        bytes.extend([head, 0, 0, 0]);
+    }
+    bytes
+}
+
+/// A line with target and availability 100,000, no regulation, rates 3 MW per minute.
+fn line(mw: f32) -> [u8; 40] {
+    let mut bytes = [0; 40];
+    for (at, value) in [(4, 100_000u32), (8, 100_000), (20, 3_000), (24, 3_000)] {
+        bytes[at..at + 4].copy_from_slice(&value.to_le_bytes());
+    }
+    for (at, value) in [(28, mw), (32, 3.0), (36, 3.0)] {
+        bytes[at..at + 4].copy_from_slice(&value.to_le_bytes());
+    }
+    bytes
+}
+
+fn member(mw: f32, mode: u8) -> [u8; 40] {
+    let mut bytes = line(mw);
+    bytes[1] = mode;
+    bytes
+}
+
+fn with(mut bytes: [u8; 40], at: usize, value: u8) -> [u8; 40] {
+    bytes[at] = value;
+    bytes
+}
+
+fn buffer(number: u32, mode: u8, lines: &[[u8; 40]]) -> Vec<u8> {
+    let mut bytes = number.to_le_bytes().to_vec();
+    bytes.extend([mode, 0, 0, 0]);
+    bytes.extend(lines.concat());
+    bytes
+}
+
+/// A monitor with one generating unit, and shorthands for its intervals.
+struct One(Monitor);
+
+impl One {
+    fn new(lengths: [u8; 6]) -> Self {
+        let mut monitor = Monitor::new();
+        assert_eq!(monitor.load(&register(lengths, &[(1, 0)], &[])), Ok(0));
+        Self(monitor)
+    }
+
+    fn interval(&mut self, number: u32, mode: u8, line: [u8; 40]) -> Record {
+        let mut report = [0; 16];
+        self.0.interval(&buffer(number, mode, &[line]), &mut report).unwrap();
+        Record::of(&report)
+    }
+
+    fn refused(&mut self, bytes: &[u8], report: usize) -> u32 {
+        let before = self.0.clone();
+        let mut report = vec![0xEE; report];
+        let refusal = self.0.interval(bytes, &mut report).unwrap_err();
+        assert!(report.iter().all(|&byte| byte == 0xEE) && self.0 == before);
+        refusal.number()
+    }
+}
+
+fn summary(record: Record) -> (u8, u8, u8, u8) {
+    (record.status, record.mark, record.small, record.large)
+}
+
+#[test]
+fn worked_example() {
+    let register = register([2, 3, 4, 2, 3, 4], &[(1, 0)], &[]);
+    let intervals = [(10, 100.0), (11, 107.0), (12, 93.0)].map(|(number, mw)| buffer(number, 1, &[line(mw)])).concat();
+    let mut out = Vec::new();
+    program::run(&register, &intervals, &mut out).unwrap();
+    assert_eq!(
+        String::from_utf8(out).unwrap(),
+        "10 1 0 1 0 0 0 0 0\n11 1 1 5 1 1 7000 600000 0\n12 1 2 5 2 2 -7000 600000 0\n"
+    );
+}
+
+#[test]
+fn report_bytes() {
+    let mut monitor = Monitor::new();
+    monitor.load(&register([2, 3, 4, 2, 3, 4], &[(1, 0)], &[])).unwrap();
+    let mut report = [0xFF; 16];
+    monitor.interval(&buffer(1, 1, &[line(100.0)]), &mut report).unwrap();
+    assert_eq!(report, [0, 1, 0, 0, 0, 0, 0, 0, 0, 0, 0, 0, 0, 0, 0, 0]);
+    monitor.interval(&buffer(2, 1, &[line(93.0)]), &mut report).unwrap();
+    // -7000 is FFFFE4A8, 600,000 is 000927C0.
+    assert_eq!(report, [1, 5, 1, 1, 0xA8, 0xE4, 0xFF, 0xFF, 0xC0, 0x27, 0x09, 0, 0, 0, 0, 0]);
+}
+
+#[test]
+fn order_of_interval_refusals() {
+    let good = buffer(5, 1, &[line(100.0)]);
+    let mut fresh = One(Monitor::new());
+    assert_eq!(fresh.refused(&[], 0), 20);
+    assert_eq!(fresh.refused(&good, 16), 20);
+    let mut one = One::new([2, 3, 4, 2, 3, 4]);
+    one.interval(5, 1, line(100.0));
+    assert_eq!(one.refused(&good, 16), 21);
+    assert_eq!(one.refused(&buffer(4, 1, &[line(100.0)]), 16), 21);
+    let mut wrong_mode = good.clone();
+    wrong_mode[4] = 2;
+    assert_eq!(one.refused(&wrong_mode, 16), 9);
+    assert_eq!(one.refused(&wrong_mode, 17), 8);
+    assert_eq!(one.refused(&wrong_mode[..47], 16), 8);
+    for spare in 5..8 {
+        let mut bytes = good.clone();
+        bytes[spare] = 1;
+        assert_eq!(one.refused(&bytes, 16), 9);
+    }
+    assert_eq!(one.refused(&good, 0), 8);
+    assert_eq!(one.refused(&good, 32), 8);
+}
+
+#[test]
+fn numbers_do_not_wrap() {
+    let mut one = One::new([2, 3, 4, 2, 3, 4]);
+    one.interval(u32::MAX - 1, 1, line(100.0));
+    assert_eq!(one.interval(u32::MAX, 1, line(100.0)).mark, 2);
+    assert_eq!(one.refused(&buffer(0, 1, &[line(100.0)]), 16), 21);
+    assert_eq!(one.refused(&buffer(u32::MAX, 1, &[line(100.0)]), 16), 21);
+    one.0.load(&register([2, 3, 4, 2, 3, 4], &[(1, 0)], &[])).unwrap();
+    assert_eq!(one.interval(0, 1, line(100.0)).mark, 1);
+    assert_eq!(one.interval(1, 1, line(100.0)).mark, 2);
+}
+
+#[test]
+fn automatic_mode_declares() {
+    let mut one = One::new([2, 3, 4, 2, 3, 4]);
+    one.interval(1, 1, line(100.0));
+    let statuses: Vec<_> =
+        (2..=7).map(|number| one.interval(number, 1, line(107.0))).map(|r| (r.status, r.small, r.level)).collect();
+    assert_eq!(statuses, [(1, 1, 0), (2, 2, 0), (3, 3, 0), (4, 0, 107_000), (4, 0, 107_000), (4, 0, 107_000)]);
+    // The level stands, also when back on target; the mark goes on.
+    let record = one.interval(8, 1, line(100.0));
+    assert_eq!((record.status, record.mark, record.level), (4, 2, 107_000));
+    assert_eq!(one.0.declare(1, 5).unwrap_err().number(), 22);
+    one.0.reinstate(1).unwrap();
+    assert_eq!(one.0.look(1), Ok(Look { status: 0, small: 0, large: 0, level: 0 }));
+    assert_eq!(one.0.reinstate(1).unwrap_err().number(), 23);
+    assert_eq!(summary(one.interval(9, 1, line(107.0))), (1, 5, 1, 1));
+}
+
+#[test]
+fn large_run_declares_alone() {
+    // Small lengths 8 9 10, large 2 3 4: SMALL between clears the large run.
+    let mut one = One::new([8, 9, 10, 2, 3, 4]);
+    let wide = |mw: f32| {
+        let mut bytes = line(mw);
+        bytes[8..12].copy_from_slice(&200_000u32.to_le_bytes());
+        for at in [20, 24] {
+            bytes[at..at + 4].copy_from_slice(&9_000u32.to_le_bytes());
+        }
+        for at in [32, 36] {
+            bytes[at..at + 4].copy_from_slice(&9.0f32.to_le_bytes());
+        }
+        bytes
+    };
+    one.interval(1, 1, wide(100.0));
+    // Small trigger 600,000, large 1,000,000.
+    let marks: Vec<_> = [120.0, 120.0, 108.0, 120.0, 120.0, 120.0, 120.0]
+        .iter()
+        .zip(2..)
+        .map(|(&mw, number)| summary(one.interval(number, 1, wide(mw))))
+        .collect();
+    assert_eq!(
+        marks,
+        [(1, 5, 1, 1), (2, 5, 2, 2), (1, 4, 3, 0), (1, 5, 4, 1), (2, 5, 5, 2), (3, 5, 6, 3), (4, 5, 0, 0)]
+    );
+}
+
+#[test]
+fn manual_mode_shows_two_and_its_backlog_declares() {
+    let mut one = One::new([2, 3, 4, 2, 3, 4]);
+    one.interval(1, 0, line(100.0));
+    let statuses: Vec<_> = (2..=7).map(|number| one.interval(number, 0, line(107.0)).status).collect();
+    assert_eq!(statuses, [1, 2, 2, 2, 2, 2]);
+    assert_eq!(one.0.look(1), Ok(Look { status: 2, small: 6, large: 6, level: 0 }));
+    // BLANK and DOUBT never declare: status 3 in automatic mode.
+    assert_eq!(summary(one.interval(8, 1, with(line(107.0), 0, 2))), (3, 1, 6, 6));
+    assert_eq!(summary(one.interval(9, 1, with(line(107.0), 0, 1))), (3, 3, 6, 6));
+    assert_eq!(summary(one.interval(10, 0, with(line(107.0), 0, 1))), (2, 3, 6, 6));
+    assert_eq!(summary(one.interval(11, 1, line(93.0))), (4, 5, 0, 0));
+    assert_eq!(one.0.look(1), Ok(Look { status: 4, small: 0, large: 0, level: 93_000 }));
+}
+
+#[test]
+fn runs_stop_at_255() {
+    let mut one = One::new([2, 3, 255, 2, 3, 255]);
+    one.interval(1, 0, line(100.0));
+    for number in 2..=300 {
+        let record = one.interval(number, 0, line(107.0));
+        let run = (number - 1).min(255) as u8;
+        assert_eq!((record.small, record.large), (run, run));
+    }
+    assert_eq!(summary(one.interval(301, 1, line(107.0))), (4, 5, 0, 0));
+    let mut one = One::new([2, 3, 255, 2, 3, 255]);
+    one.interval(1, 1, line(100.0));
+    for number in 2..=255 {
+        assert_ne!(one.interval(number, 1, line(107.0)).status, 4);
+    }
+    assert_eq!(one.interval(256, 1, line(107.0)).status, 4);
+}
+
+#[test]
+fn jumps_and_unreadable_lines_leave_nothing_kept() {
+    let mut one = One::new([2, 3, 4, 2, 3, 4]);
+    one.interval(1, 1, line(100.0));
+    assert_eq!(summary(one.interval(2, 1, line(107.0))), (1, 5, 1, 1));
+    // A jump: BLANK, the run stands.
+    assert_eq!(summary(one.interval(4, 1, line(107.0))), (1, 1, 1, 1));
+    assert_eq!(summary(one.interval(5, 1, line(107.0))), (2, 5, 2, 2));
+    // Unreadable: BLANK now and, nothing being kept, next time.
+    assert_eq!(summary(one.interval(6, 1, with(line(107.0), 2, 1))), (2, 1, 2, 2));
+    assert_eq!(summary(one.interval(7, 1, line(107.0))), (2, 1, 2, 2));
+    // Quality 2: BLANK now, but kept.
+    assert_eq!(summary(one.interval(8, 1, with(line(107.0), 0, 2))), (2, 1, 2, 2));
+    assert_eq!(summary(one.interval(9, 1, line(107.0))), (3, 5, 3, 3));
+    // A refused interval keeps nothing and makes nothing stale.
+    assert_eq!(one.refused(&buffer(10, 2, &[line(100.0)]), 16), 9);
+    assert_eq!(summary(one.interval(10, 1, line(100.0))), (0, 2, 0, 0));
+}
+
+#[test]
+fn the_kept_target_counts() {
+    let mut one = One::new([2, 3, 4, 2, 3, 4]);
+    one.interval(1, 1, line(100.0));
+    // This interval's target is 0 and is kept for the next alone.
+    let mut other = line(100.0);
+    other[4..8].fill(0);
+    assert_eq!(one.interval(2, 1, other).mark, 2);
+    let record = one.interval(3, 1, line(100.0));
+    assert_eq!((record.mark, record.error), (5, 100_000));
+}
+
+#[test]
+fn operator_calls() {
+    let mut monitor = Monitor::new();
+    assert_eq!(monitor.declare(0, i32::MIN).unwrap_err().number(), 20);
+    assert_eq!(monitor.reinstate(0).unwrap_err().number(), 20);
+    assert_eq!(monitor.look(0).unwrap_err().number(), 20);
+    monitor.load(&register([2, 3, 4, 2, 3, 4], &[(1, 0)], &[1])).unwrap();
+    for point in [0, 3, 257, 65_537, u32::MAX] {
+        assert_eq!(monitor.declare(point, i32::MAX).unwrap_err().number(), 10);
+        assert_eq!(monitor.reinstate(point).unwrap_err().number(), 10);
+        assert_eq!(monitor.look(point).unwrap_err().number(), 10);
+    }
+    for level in [128_000_001, -128_000_001, i32::MIN, i32::MAX] {
+        assert_eq!(monitor.declare(1, level).unwrap_err().number(), 11);
+    }
+    for level in [128_000_000, -128_000_000] {
+        assert_eq!(monitor.declare(1, level).unwrap_err().number(), 22);
+    }
+    assert_eq!(monitor.reinstate(2).unwrap_err().number(), 23);
+    let mut report = [0; 32];
+    for number in 1..=3 {
+        let mw = if number == 1 { 100.0 } else { 107.0 };
+        monitor.interval(&buffer(number, 0, &[member(mw, 2)]), &mut report).unwrap();
+    }
+    // Both at status 2; the aggregate alone is declared.
+    monitor.declare(2, -128_000_000).unwrap();
+    assert_eq!(monitor.look(2), Ok(Look { status: 4, small: 0, large: 0, level: -128_000_000 }));
+    assert_eq!(monitor.look(1), Ok(Look { status: 2, small: 2, large: 2, level: 0 }));
+    // A level of 0 is a declaration too.
+    monitor.declare(1, 0).unwrap();
+    assert_eq!(monitor.look(1).unwrap().status, 4);
+    // A refused load leaves everything, an accepted one starts afresh.
+    assert_eq!(monitor.load(&[]).unwrap_err().number(), 1);
+    assert_eq!(monitor.look(2).unwrap().level, -128_000_000);
+    assert_eq!(monitor.load(&register([2, 3, 4, 2, 3, 4], &[(1, 0)], &[1])), Ok(1));
+    assert_eq!(monitor.look(2), Ok(Look { status: 0, small: 0, large: 0, level: 0 }));
+}
+
+#[test]
+fn members_and_their_aggregate() {
+    // Unit 1 generating, unit 2 a load; aggregate of 2 then 1.
+    let mut monitor = Monitor::new();
+    assert_eq!(monitor.load(&register([2, 3, 4, 2, 3, 4], &[(1, 0), (2, 1)], &[2])), Ok(2));
+    let mut report = [0; 48];
+    let mut run = |number, lines: &[[u8; 40]]| {
+        monitor.interval(&buffer(number, 1, lines), &mut report).unwrap();
+        report.as_chunks().0.iter().map(Record::of).map(|r| (r.mark, r.error, r.status)).collect::<Vec<_>>()
+    };
+    assert_eq!(run(1, &[member(100.0, 2), member(100.0, 2)]), [(1, 0, 0); 3]);
+    // Generating 8,000 above, load 8,000 above: the signed sum is 0.
+    assert_eq!(run(2, &[member(108.0, 2), member(108.0, 2)]), [(5, 8_000, 1), (5, 8_000, 1), (2, 0, 0)]);
+    // Opposite errors add up.
+    assert_eq!(run(3, &[member(104.0, 2), member(96.0, 2)]), [(2, 4_000, 0), (2, -4_000, 0), (5, 8_000, 1)]);
+    // One off: the aggregate goes on with it.
+    assert_eq!(run(4, &[member(104.0, 1), member(96.0, 0)]), [(0, 0, 0), (0, 0, 0), (5, 8_000, 2)]);
+    assert_eq!(run(5, &[member(104.0, 0), member(96.0, 0)]), [(0, 0, 0), (0, 0, 0), (0, 0, 0)]);
+    // One unreadable: BLANK for it and the aggregate alone.
+    assert_eq!(run(6, &[member(104.0, 3), member(96.0, 2)]), [(1, 0, 0), (2, -4_000, 0), (1, 0, 0)]);
+    assert_eq!(run(7, &[member(104.0, 2), member(96.0, 2)]), [(1, 0, 0), (2, -4_000, 0), (1, 0, 0)]);
+    assert_eq!(
+        run(8, &[with(member(104.0, 2), 0, 1), member(96.0, 2)]),
+        [(2, 4_000, 0), (2, -4_000, 0), (3, 8_000, 0)]
+    );
+}
+
+#[test]
+fn program_refusals() {
+    let text = |register: &[u8], intervals: &[u8]| {
+        let mut out = Vec::new();
+        program::run(register, intervals, &mut out).unwrap();
+        String::from_utf8(out).unwrap()
+    };
+    let good = register([2, 3, 4, 2, 3, 4], &[(1, 0)], &[]);
+    assert_eq!(text(&[], &[1, 2, 3]), "refused 1\n");
+    assert_eq!(text(&good, &[]), "");
+    assert_eq!(text(&good, &[0; 5]), "refused 8\n");
+    let bytes = [buffer(7, 1, &[line(100.0)]), buffer(7, 1, &[line(100.0)]), buffer(8, 1, &[line(100.0)])].concat();
+    assert_eq!(text(&good, &bytes), "7 1 0 1 0 0 0 0 0\nrefused 21\n");
+}
+
+#[test]
+fn program_on_the_data_folders() {
+    let root = std::path::Path::new(env!("CARGO_MANIFEST_DIR")).join("../tests/program");
+    let mut folders: Vec<_> = std::fs::read_dir(root).unwrap().map(|entry| entry.unwrap().path()).collect();
+    folders.sort();
+    assert!(folders.len() >= 6);
+    for folder in folders {
+        let read = |name: &str| std::fs::read(folder.join(name)).unwrap_or_default();
+        let mut out = Vec::new();
+        program::run(&read("register.bin"), &read("intervals.bin"), &mut out).unwrap();
+        assert_eq!(
+            String::from_utf8(out).unwrap(),
+            String::from_utf8(read("expected")).unwrap(),
+            "{}",
+            folder.display()
+        );
+    }
+}

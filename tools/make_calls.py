@@ -1,0 +1,839 @@
+#!/usr/bin/env python3
+"""Lists of calls for `replay`: tests/calls/NAME/{calls.bin,expected}, and data and stdout of crates/replay.
+
+    make_calls.py           writes the files
+    make_calls.py --check   writes nothing; exit 1 where a file differs from what would be written, or where the lines of the
+                            group that `alike_1` and `alike_2` share are not equal
+
+Every expected line is worked out by hand from 01; nothing here computes a mark, and no monitor is run. A step of a list is a
+call's bytes and the lines that it prints. A point's line is interval, point, status (0 Normal, 1 Off-Target, 2 Not-Responding,
+3 NC-Pending, 4 Non-Conforming), mark (0 OFF, 1 BLANK, 2 CLEAR, 3 DOUBT, 4 SMALL, 5 LARGE), small run, large run, error, small
+trigger, level.
+
+tests/calls/alike_*/group has the numbers of the output's lines that belong to the group, one a line.
+"""
+
+import pathlib
+import struct
+import sys
+
+from plant_bytes import (AUTOMATIC, BAD, BIDIRECTIONAL, GENERATING, LOAD, MANUAL, SUBSTITUTED, interval, line, register)
+
+ROOT = pathlib.Path(__file__).resolve().parent.parent
+LENGTHS = (2, 3, 4, 2, 3, 4)  # Ns, Ps, Ds, Nl, Pl, Dl
+
+
+# ---- the bytes of a call
+
+
+def call(tag, payload):
+    return (
+        struct.pack("<I", tag)  # 0 tag
+        + struct.pack("<I", len(payload))  # 4 payload length
+        + payload
+    )
+
+
+def load(registered):
+    return call(1, registered)  # the register's bytes
+
+
+def given(buffer, report):
+    """An interval call with a report buffer of that many bytes."""
+    return call(2, struct.pack("<I", report) + buffer)  # 0 report length; 4 interval buffer
+
+
+def declare(point, level):
+    return call(3, struct.pack("<I", point) + struct.pack("<i", level))  # 0 point; 4 level
+
+
+def reinstate(point):
+    return call(4, struct.pack("<I", point))  # 0 point
+
+
+def look(point):
+    return call(5, struct.pack("<I", point))  # 0 point
+
+
+# ---- steps: a call's bytes, then its lines
+
+
+def accepted(buffer, *lines):
+    """An accepted interval: 16 bytes of report and one line a point."""
+    return given(buffer, 16 * len(lines)), "interval accepted", *lines
+
+
+def refused(name, number, *calls):
+    """Calls of one name that are all refused with one number."""
+    return b"".join(calls), *[f"{name} refused {number}"] * len(calls)
+
+
+# ---- lines of a unit
+
+
+def plain(mw, **changes):
+    """MWB and MWO 100,000, no regulation, all rates 3 MW per minute.
+
+    Triggers: small max(600,000, min(300,000, 600,000)) = 600,000; large max(600,000, min(500,000, 1,200,000)) = 600,000. An
+    error of more than 6,000 is LARGE, and none is SMALL.
+    """
+    return line(mw, **({"mwb": 100_000, "mwo": 100_000} | changes))
+
+
+def wide(mw, **changes):
+    """MWB 100,000, MWO 200,000, no regulation, all rates 9 MW per minute.
+
+    Triggers: small max(600,000, min(600,000, 1,800,000)) = 600,000; large max(600,000, min(1,000,000, 3,600,000)) = 1,000,000.
+    An error of more than 6,000 is SMALL, of more than 10,000 LARGE.
+    """
+    return line(mw, **({"mwb": 100_000, "mwo": 200_000, "bid": (9000, 9000), "scada": (9.0, 9.0)} | changes))
+
+
+ONE_UNIT = register(LENGTHS, [(GENERATING, 0)])
+TWO_UNITS = register(LENGTHS, [(GENERATING, 0), (GENERATING, 0)])
+
+
+# ---- the lists
+
+
+def every_status():
+    """One generating unit in automatic mode through every status. Small run 2, 4, 6; large run 2, 3, 4."""
+    def at(number, mw, **changes):
+        return interval(number, AUTOMATIC, wide(mw, **changes))
+
+    return [
+        # One unit in no chain: no visits.
+        (load(register((2, 4, 6, 2, 3, 4), [(GENERATING, 0)])), "load accepted 0"),
+        (look(1), "look accepted 0 0 0 0"),
+        # Nothing is kept before the first interval: BLANK.
+        accepted(at(1, 100.0), "1 1 0 1 0 0 0 0 0"),
+        # 107,000 - 100,000 = 7,000: SMALL. Small run 1: Off-Target.
+        accepted(at(2, 107.0), "2 1 1 4 1 0 7000 600000 0"),
+        # -7,000: SMALL. The other side goes on with the run, 2 = Ns: Not-Responding.
+        accepted(at(3, 93.0), "3 1 2 4 2 0 -7000 600000 0"),
+        # 11,000: LARGE adds to both runs.
+        accepted(at(4, 111.0), "4 1 2 5 3 1 11000 600000 0"),
+        (look(1), "look accepted 2 3 1 0"),
+        # Substituted and beyond the small trigger: DOUBT leaves the runs.
+        accepted(at(5, 107.0, quality=SUBSTITUTED), "5 1 2 3 3 1 7000 600000 0"),
+        # Quality 2: BLANK leaves them too, and has no error and no trigger.
+        accepted(at(6, 0.0, quality=BAD), "6 1 2 1 3 1 0 0 0"),
+        # The bad line was readable, so its target is kept. Small run 4 = Ps: NC-Pending.
+        accepted(at(7, 111.0), "7 1 3 5 4 2 11000 600000 0"),
+        (look(1), "look accepted 3 4 2 0"),
+        # SMALL sets the large run to 0; small run 5 is still at Ps or more.
+        accepted(at(8, 107.0), "8 1 3 4 5 0 7000 600000 0"),
+        # Small run 6 = Ds in automatic mode: declared at its MW, runs 0.
+        accepted(at(9, 106.001), "9 1 4 4 0 0 6001 600000 106001"),
+        (look(1), "look accepted 4 0 0 106001"),
+        # Marks go on while declared; CLEAR does not end it.
+        accepted(at(10, 100.0), "10 1 4 2 0 0 0 600000 106001"),
+        accepted(at(11, 111.0), "11 1 4 5 0 0 11000 600000 106001"),
+        (reinstate(1), "reinstate accepted"),
+        (look(1), "look accepted 0 0 0 0"),
+        # -10,001: 1,000,100 exceeds the large trigger. Runs start at 0 after the reinstatement.
+        accepted(at(12, 89.999), "12 1 1 5 1 1 -10001 600000 0"),
+        # -10,000: 1,000,000 does not exceed 1,000,000: SMALL, large run 0. Small run 2.
+        accepted(at(13, 90.0), "13 1 2 4 2 0 -10000 600000 0"),
+        # 6,000: 600,000 does not exceed 600,000: CLEAR, runs 0.
+        accepted(at(14, 106.0), "14 1 0 2 0 0 6000 600000 0"),
+        # Four LARGE marks: large run 2 = Nl, 3 = Pl, 4 = Dl, ahead of the small run's lengths 4 and 6.
+        accepted(at(15, 111.0), "15 1 1 5 1 1 11000 600000 0"),
+        accepted(at(16, 111.0), "16 1 2 5 2 2 11000 600000 0"),
+        accepted(at(17, 111.0), "17 1 3 5 3 3 11000 600000 0"),
+        accepted(at(18, 111.0), "18 1 4 5 0 0 11000 600000 111000"),
+        (look(1), "look accepted 4 0 0 111000"),
+    ]
+
+
+def operator_declaration():
+    """An operator declares a unit, a member and its aggregate. Unit 1 in no chain; chain 2 -> 3 (load, battery) is point 4."""
+    registered = register(LENGTHS, [(GENERATING, 0), (LOAD, 3), (BIDIRECTIONAL, 0)], [2])
+
+    def at(number, mode, unit, battery):
+        # The load stays at its target. The battery's target is -50,000. All own triggers are as `plain` says. The aggregate's
+        # kept target is -100,000 - 50,000 = -150,000; MWO max(100,000, 100,000); 3 x and 5 x that are under 600,000, so both
+        # of its triggers are 600,000 as well.
+        return interval(number, mode, plain(unit), plain(100.0, mode=2), plain(battery, mwb=-50_000, mode=2))
+
+    return [
+        (load(registered), "load accepted 2"),
+        accepted(
+            at(20, MANUAL, 100.0, -50.0),
+            "20 1 0 1 0 0 0 0 0",  # nothing kept
+            "20 2 0 1 0 0 0 0 0",
+            "20 3 0 1 0 0 0 0 0",
+            "20 4 0 1 0 0 0 0 0",
+        ),
+        accepted(
+            at(21, MANUAL, 107.0, -60.0),
+            "21 1 1 5 1 1 7000 600000 0",
+            "21 2 0 2 0 0 0 600000 0",
+            "21 3 1 5 1 1 -10000 600000 0",  # -((-50,000) - (-60,000))
+            "21 4 1 5 1 1 -10000 600000 0",  # MW -100,000 - 60,000 = -160,000 against -150,000
+        ),
+        # Status 1 and status 0 cannot be declared.
+        refused("declare", 22, declare(1, 107_000), declare(2, 0)),
+        accepted(
+            at(22, MANUAL, 107.0, -60.0),
+            "22 1 2 5 2 2 7000 600000 0",
+            "22 2 0 2 0 0 0 600000 0",
+            "22 3 2 5 2 2 -10000 600000 0",
+            "22 4 2 5 2 2 -10000 600000 0",
+        ),
+        # The battery at status 2; its aggregate is a point of its own and stays as it was.
+        (declare(3, -60_000), "declare accepted"),
+        (look(3), "look accepted 4 0 0 -60000"),
+        (look(4), "look accepted 2 2 2 0"),
+        # The lowest level.
+        (declare(4, -128_000_000), "declare accepted"),
+        (look(4), "look accepted 4 0 0 -128000000"),
+        # A declared point is not declared again; its level stands.
+        refused("declare", 22, declare(4, 0)),
+        (look(4), "look accepted 4 0 0 -128000000"),
+        accepted(
+            at(23, MANUAL, 107.0, -60.0),
+            "23 1 2 5 3 3 7000 600000 0",  # runs 3 = Ps: manual mode shows 2 instead of 3
+            "23 2 0 2 0 0 0 600000 0",
+            "23 3 4 5 0 0 -10000 600000 -60000",  # declared: the mark and the error go on, runs 0
+            "23 4 4 5 0 0 -10000 600000 -128000000",
+        ),
+        (look(1), "look accepted 2 3 3 0"),
+        refused("declare", 11, declare(1, 128_000_001)),
+        # The highest level.
+        (declare(1, 128_000_000), "declare accepted"),
+        (look(1), "look accepted 4 0 0 128000000"),
+        accepted(
+            at(24, AUTOMATIC, 100.0, -50.0),
+            "24 1 4 2 0 0 0 600000 128000000",  # CLEAR ends no declaration
+            "24 2 0 2 0 0 0 600000 0",
+            "24 3 4 2 0 0 0 600000 -60000",
+            "24 4 4 2 0 0 0 600000 -128000000",
+        ),
+        refused("reinstate", 23, reinstate(2)),
+        (reinstate(1), "reinstate accepted"),
+        (reinstate(3), "reinstate accepted"),
+        (look(3), "look accepted 0 0 0 0"),
+        # Reinstating the member leaves its aggregate declared.
+        (look(4), "look accepted 4 0 0 -128000000"),
+        (reinstate(4), "reinstate accepted"),
+        (look(4), "look accepted 0 0 0 0"),
+        # Not declared any more.
+        refused("reinstate", 23, reinstate(4)),
+        accepted(
+            at(25, AUTOMATIC, 107.0, -50.0),
+            "25 1 1 5 1 1 7000 600000 0",  # runs from 0 on
+            "25 2 0 2 0 0 0 600000 0",
+            "25 3 0 2 0 0 0 600000 0",
+            "25 4 0 2 0 0 0 600000 0",
+        ),
+        accepted(
+            at(26, AUTOMATIC, 107.0, -50.0),
+            "26 1 2 5 2 2 7000 600000 0",
+            "26 2 0 2 0 0 0 600000 0",
+            "26 3 0 2 0 0 0 600000 0",
+            "26 4 0 2 0 0 0 600000 0",
+        ),
+        accepted(
+            at(27, AUTOMATIC, 107.0, -50.0),
+            "27 1 3 5 3 3 7000 600000 0",  # automatic mode shows 3
+            "27 2 0 2 0 0 0 600000 0",
+            "27 3 0 2 0 0 0 600000 0",
+            "27 4 0 2 0 0 0 600000 0",
+        ),
+        # Status 3 can be declared too, here at level 0.
+        (declare(1, 0), "declare accepted"),
+        (look(1), "look accepted 4 0 0 0"),
+        accepted(
+            at(28, AUTOMATIC, 107.0, -50.0),
+            "28 1 4 5 0 0 7000 600000 0",  # declared already: not declared again at 107,000
+            "28 2 0 2 0 0 0 600000 0",
+            "28 3 0 2 0 0 0 600000 0",
+            "28 4 0 2 0 0 0 600000 0",
+        ),
+    ]
+
+
+def refusals_without_register():
+    """20 goes before all else; refusals 1 to 7 of a load, which leave no register."""
+    one, two = (GENERATING, 0), [(GENERATING, 0), (GENERATING, 0)]
+
+    def changed(registered, **bytes_at):
+        out = bytearray(registered)
+        for place, value in bytes_at.items():
+            out[int(place[1:])] = value
+        return bytes(out)
+
+    chained = register(LENGTHS, [(GENERATING, 2), one], [1])  # 16 header, 16-19 unit 1, 20-23 unit 2, 24-27 head
+    return [
+        refused("interval", 20, given(interval(1, AUTOMATIC, plain(100.0)), 16), given(b"", 0), given(bytes(48), 7)),
+        refused("declare", 20, declare(1, 0), declare(0, -(2**31))),
+        refused("reinstate", 20, reinstate(1), reinstate(0)),
+        refused("look", 20, look(1), look(2**32 - 1)),
+        # 1: under 16 bytes, whatever they are.
+        refused("load", 1, load(b""), load(bytes(15)), load(b"\xff" * 15)),
+        # 2: no unit, 65 units, 17 aggregates; ahead of the length, of run lengths and of spares.
+        refused("load", 2, load(changed(ONE_UNIT, _0=0)), load(changed(ONE_UNIT, _0=65)), load(changed(ONE_UNIT, _1=17)),
+                load(b"\xff" * 16)),
+        # 1: not 16 + 4n + 4m; ahead of run lengths and of spares.
+        refused("load", 1, load(ONE_UNIT + b"\0"), load(ONE_UNIT[:-1]), load(changed(ONE_UNIT, _1=1)),
+                load(register((0,) * 6, [one]) + b"\1")),
+        # 3: Ns under 2, Ns = Ps, Ps = Ds, and the same for the large run; ahead of an unknown kind.
+        refused("load", 3, load(register((1, 3, 4, 2, 3, 4), [one])), load(register((3, 3, 4, 2, 3, 4), [one])),
+                load(register((2, 4, 4, 2, 3, 4), [one])), load(register((2, 3, 4, 1, 3, 4), [one])),
+                load(register((2, 3, 4, 3, 3, 4), [one])), load(register((2, 3, 4, 2, 4, 4), [one])),
+                load(register((2, 3, 4, 2, 3, 2), [(0, 9)]))),
+        # 4: kind 0 and 4; spares of the header, of a unit and of a head.
+        refused("load", 4, load(register(LENGTHS, [(0, 0)])), load(register(LENGTHS, [one, (4, 0)])),
+                load(changed(ONE_UNIT, _8=1)), load(changed(ONE_UNIT, _15=128)),
+                load(changed(ONE_UNIT, _18=1)), load(changed(ONE_UNIT, _19=1)),
+                load(changed(chained, _25=1)), load(changed(chained, _26=1)), load(changed(chained, _27=1))),
+        # 4 over the whole register goes before 5: a spare in the last head, a next above n in the first unit.
+        refused("load", 4, load(changed(chained, _27=1, _17=3))),
+        # 5: a next above n (in a unit that a chain meets, and in one that none meets), a head above n, head 0.
+        refused("load", 5, load(changed(chained, _17=3)), load(register(LENGTHS, [(GENERATING, 2)])),
+                load(register(LENGTHS, two, [3])), load(register(LENGTHS, two, [0]))),
+        # 5 over the whole register goes before 6: two equal heads, and a third one that is 0.
+        refused("load", 5, load(register(LENGTHS, two, [1, 1, 0]))),
+        # 6: two equal heads, a unit that is its own next, a chain that runs into another.
+        refused("load", 6, load(register(LENGTHS, two, [1, 1])), load(register(LENGTHS, [(GENERATING, 1)], [1])),
+                load(register(LENGTHS, [(GENERATING, 3), (GENERATING, 3), one], [1, 2]))),
+        # 6 goes before 7: two equal heads, and unit 2 met by none with a next.
+        refused("load", 6, load(register(LENGTHS, [one, (GENERATING, 1)], [1, 1]))),
+        # 7: a next in a unit that no chain met; a loop among such units.
+        refused("load", 7, load(register(LENGTHS, [one, (GENERATING, 1)], [1])),
+                load(register(LENGTHS, [one, (GENERATING, 3), (GENERATING, 2)], [1]))),
+        # None of them left a register.
+        refused("look", 20, look(1)),
+    ]
+
+
+def refusals_with_register():
+    """8 to 11 and 21 to 23, their order, and that each leaves the state as it was. Chain 1, unit 2 in no chain: points 1 to 3."""
+    registered = register(LENGTHS, [(GENERATING, 0), (GENERATING, 0)], [1])
+
+    def at(number, mode, mw):
+        return interval(number, mode, plain(mw, mode=2), plain(mw))
+
+    def headed(number, *mode_and_spares):
+        return struct.pack("<I", number) + bytes(mode_and_spares) + at(number, AUTOMATIC, 107.0)[8:]
+
+    good = at(7, AUTOMATIC, 100.0)  # 88 bytes; the report has 48
+    beyond = [0, 4, 257, 65_537, 2**31 + 1, 2**32 - 1]  # points: 0, n+m+1, and some whose low bytes are 1
+    return [
+        (load(registered), "load accepted 1"),
+        # 8: either length, one byte off; an empty buffer and an empty report.
+        refused("interval", 8, given(good[:-1], 48), given(good + b"\0", 48), given(good, 47), given(good, 49),
+                given(b"", 48), given(good, 0), given(b"", 0), given(good[:48], 48), given(good, 4_096)),
+        # 8 goes before 9: the report one byte short, and mode 2.
+        refused("interval", 8, given(headed(7, 2, 0, 0, 0), 47)),
+        # 9: mode 2 and 255; each spare.
+        refused("interval", 9, *[given(headed(7, *head), 48) for head in
+                                 [(2, 0, 0, 0), (255, 0, 0, 0), (1, 1, 0, 0), (0, 0, 1, 0), (1, 0, 0, 128)]]),
+        # None of them was accepted, so the first interval may still have any number, 7 too.
+        accepted(good, "7 1 0 1 0 0 0 0 0", "7 2 0 1 0 0 0 0 0", "7 3 0 1 0 0 0 0 0"),
+        # 21: the same number, and lower ones.
+        refused("interval", 21, given(at(7, AUTOMATIC, 107.0), 48), given(at(6, MANUAL, 107.0), 48),
+                given(at(0, MANUAL, 107.0), 48)),
+        # 8 and 9 go before 21.
+        refused("interval", 8, given(at(7, AUTOMATIC, 107.0), 64)),
+        refused("interval", 9, given(headed(7, 1, 0, 0, 1), 48)),
+        # 10; it goes before 11, 22 and 23.
+        refused("declare", 10, *[declare(point, 0) for point in beyond], declare(4, 128_000_001)),
+        refused("reinstate", 10, *[reinstate(point) for point in beyond]),
+        refused("look", 10, *[look(point) for point in beyond]),
+        # 11, either sign; it goes before 22: the point is Normal.
+        refused("declare", 11, declare(1, 128_000_001), declare(1, -128_000_001), declare(3, 2**31 - 1), declare(3, -(2**31))),
+        # 22 at status 0, 23 at status 0.
+        refused("declare", 22, declare(1, 0), declare(2, 128_000_000), declare(3, -128_000_000)),
+        refused("reinstate", 23, reinstate(1), reinstate(2), reinstate(3)),
+        # Everything stands as it was: kept lines of interval 7, runs 0. The aggregate has its one member's sums.
+        accepted(
+            at(8, AUTOMATIC, 107.0),
+            "8 1 1 5 1 1 7000 600000 0",
+            "8 2 1 5 1 1 7000 600000 0",
+            "8 3 1 5 1 1 7000 600000 0",
+        ),
+        # 22 and 23 at status 1.
+        refused("declare", 22, declare(1, 0)),
+        refused("reinstate", 23, reinstate(1)),
+        accepted(
+            at(9, AUTOMATIC, 107.0),
+            "9 1 2 5 2 2 7000 600000 0",
+            "9 2 2 5 2 2 7000 600000 0",
+            "9 3 2 5 2 2 7000 600000 0",
+        ),
+        # 11 at a status that could be declared; 23 at status 2.
+        refused("declare", 11, declare(2, 128_000_001)),
+        refused("reinstate", 23, reinstate(2)),
+        # The declaration leaves points 1 and 3.
+        (declare(2, 5), "declare accepted"),
+        # 11 goes before 22, and 22 at status 4.
+        refused("declare", 11, declare(2, -128_000_001)),
+        refused("declare", 22, declare(2, 6)),
+        accepted(
+            at(10, AUTOMATIC, 107.0),
+            "10 1 3 5 3 3 7000 600000 0",
+            "10 2 4 5 0 0 7000 600000 5",
+            "10 3 3 5 3 3 7000 600000 0",
+        ),
+        # 23 at status 3.
+        refused("reinstate", 23, reinstate(1)),
+        (look(1), "look accepted 3 3 3 0"),
+        (look(2), "look accepted 4 0 0 5"),
+        (look(3), "look accepted 3 3 3 0"),
+        (reinstate(2), "reinstate accepted"),
+    ]
+
+
+def backlog():
+    """Runs past 255 in manual mode, then automatic mode. Both declaration lengths 255; unit 1 marks SMALL, unit 2 LARGE."""
+    def at(number, mode, one, two, **changes):
+        return interval(number, mode, wide(one, **changes), wide(two, **changes))
+
+    steps = [
+        (load(register((2, 3, 255, 2, 3, 255), [(GENERATING, 0), (GENERATING, 0)])), "load accepted 0"),
+        accepted(at(0, MANUAL, 100.0, 100.0), "0 1 0 1 0 0 0 0 0", "0 2 0 1 0 0 0 0 0"),
+        # Errors 7,000 and 11,000: run 1.
+        accepted(at(1, MANUAL, 107.0, 111.0), "1 1 1 4 1 0 7000 600000 0", "1 2 1 5 1 1 11000 600000 0"),
+    ]
+    # From 2 = Ns on Not-Responding; from 3 = Ps on still 2, manual mode; at 255 = Ds no declaration, manual mode.
+    for number in range(2, 256):
+        steps.append(accepted(at(number, MANUAL, 107.0, 111.0),
+                              f"{number} 1 2 4 {number} 0 7000 600000 0",
+                              f"{number} 2 2 5 {number} {number} 11000 600000 0"))
+    # Stored runs stop at 255.
+    for number in range(256, 261):
+        steps.append(accepted(at(number, MANUAL, 107.0, 111.0),
+                              f"{number} 1 2 4 255 0 7000 600000 0",
+                              f"{number} 2 2 5 255 255 11000 600000 0"))
+    return steps + [
+        (look(1), "look accepted 2 255 0 0"),
+        (look(2), "look accepted 2 255 255 0"),
+        # Automatic mode: BLANK and DOUBT leave the runs, declare nothing and show 3.
+        accepted(at(261, AUTOMATIC, 0.0, 0.0, quality=BAD), "261 1 3 1 255 0 0 0 0", "261 2 3 1 255 255 0 0 0"),
+        (look(1), "look accepted 3 255 0 0"),
+        accepted(
+            at(262, AUTOMATIC, 107.0, 111.0, quality=SUBSTITUTED),
+            "262 1 3 3 255 0 7000 600000 0",
+            "262 2 3 3 255 255 11000 600000 0",
+        ),
+        # Manual mode again: 2 for 3.
+        accepted(at(263, MANUAL, 0.0, 0.0, quality=BAD), "263 1 2 1 255 0 0 0 0", "263 2 2 1 255 255 0 0 0"),
+        # A jump makes the kept lines stale: BLANK, 3 again in automatic mode.
+        accepted(at(270, AUTOMATIC, 107.0, 111.0), "270 1 3 1 255 0 0 0 0", "270 2 3 1 255 255 0 0 0"),
+        # The next SMALL or LARGE in automatic mode declares. Unit 1 by LARGE: small run 255 = Ds, large run 1. Unit 2 by
+        # SMALL, which sets its large run to 0: the small run, 255, is at Ds.
+        accepted(
+            at(271, AUTOMATIC, 111.0, 107.0),
+            "271 1 4 5 0 0 11000 600000 111000",
+            "271 2 4 4 0 0 7000 600000 107000",
+        ),
+        (look(1), "look accepted 4 0 0 111000"),
+        (look(2), "look accepted 4 0 0 107000"),
+        # Reinstated, the runs start at 0: no backlog is left.
+        (reinstate(1), "reinstate accepted"),
+        accepted(
+            at(272, AUTOMATIC, 107.0, 107.0),
+            "272 1 1 4 1 0 7000 600000 0",
+            "272 2 4 4 0 0 7000 600000 107000",
+        ),
+    ]
+
+
+def load_again():
+    """A refused load after a good one leaves the whole state; an accepted one starts afresh."""
+    def at(number, mw):
+        return interval(number, AUTOMATIC, plain(mw))
+
+    return [
+        (load(ONE_UNIT), "load accepted 0"),
+        accepted(at(10, 100.0), "10 1 0 1 0 0 0 0 0"),
+        accepted(at(11, 107.0), "11 1 1 5 1 1 7000 600000 0"),
+        # Refused: empty, too short for its two units, a spare, a unit met twice, a next that no chain meets.
+        refused("load", 1, load(b""), load(TWO_UNITS[:-4])),
+        refused("load", 4, load(TWO_UNITS[:-1] + b"\1")),
+        refused("load", 6, load(register(LENGTHS, [(GENERATING, 0)] * 2, [2, 2]))),
+        refused("load", 7, load(register(LENGTHS, [(GENERATING, 2), (GENERATING, 0)]))),
+        # Still one unit, its status and runs, and the last number.
+        (look(1), "look accepted 1 1 1 0"),
+        refused("look", 10, look(2)),
+        refused("interval", 8, given(interval(12, AUTOMATIC, plain(100.0), plain(100.0)), 32)),
+        refused("interval", 21, given(at(11, 107.0), 16)),
+        # The line of interval 11 is still kept: -7,000, run 2.
+        accepted(at(12, 93.0), "12 1 2 5 2 2 -7000 600000 0"),
+        (declare(1, 93_000), "declare accepted"),
+        refused("load", 2, load(bytes(16))),
+        (look(1), "look accepted 4 0 0 93000"),
+        # The same bytes once more: afresh, nothing kept, any number.
+        (load(ONE_UNIT), "load accepted 0"),
+        (look(1), "look accepted 0 0 0 0"),
+        accepted(at(12, 107.0), "12 1 0 1 0 0 0 0 0"),
+        # Another plant: two units in one chain, 2 -> 1, and an aggregate, point 3.
+        (load(register(LENGTHS, [(GENERATING, 0), (GENERATING, 1)], [2])), "load accepted 2"),
+        (look(3), "look accepted 0 0 0 0"),
+        # Nothing is kept although 13 follows 12.
+        accepted(
+            interval(13, AUTOMATIC, plain(107.0, mode=2), plain(107.0, mode=2)),
+            "13 1 0 1 0 0 0 0 0",
+            "13 2 0 1 0 0 0 0 0",
+            "13 3 0 1 0 0 0 0 0",
+        ),
+    ]
+
+
+def jump():
+    """A jump in numbers makes all kept lines stale. Unit 1 is a chain of its own, point 3; unit 2 is in no chain."""
+    def at(number, mw, conformance=2):
+        return interval(number, AUTOMATIC, plain(mw, mode=conformance), plain(mw))
+
+    return [
+        (load(register(LENGTHS, [(GENERATING, 0), (GENERATING, 0)], [1])), "load accepted 1"),
+        accepted(at(10, 100.0), "10 1 0 1 0 0 0 0 0", "10 2 0 1 0 0 0 0 0", "10 3 0 1 0 0 0 0 0"),
+        # The aggregate has the sums of one member: the same error and triggers.
+        accepted(
+            at(11, 107.0),
+            "11 1 1 5 1 1 7000 600000 0",
+            "11 2 1 5 1 1 7000 600000 0",
+            "11 3 1 5 1 1 7000 600000 0",
+        ),
+        # From 11 to 13: nothing kept, so BLANK, and the run stands; but conformance mode 0 is OFF before that, and clears.
+        accepted(at(13, 107.0, conformance=0), "13 1 0 0 0 0 0 0 0", "13 2 1 1 1 1 0 0 0", "13 3 0 0 0 0 0 0 0"),
+        # The lines of 13 were kept, OFF included.
+        accepted(
+            at(14, 107.0),
+            "14 1 1 5 1 1 7000 600000 0",
+            "14 2 2 5 2 2 7000 600000 0",
+            "14 3 1 5 1 1 7000 600000 0",
+        ),
+        accepted(
+            at(4_000_000_000, 107.0),
+            "4000000000 1 1 1 1 1 0 0 0",
+            "4000000000 2 2 1 2 2 0 0 0",
+            "4000000000 3 1 1 1 1 0 0 0",
+        ),
+        accepted(
+            at(4_000_000_001, 107.0),
+            "4000000001 1 2 5 2 2 7000 600000 0",
+            "4000000001 2 3 5 3 3 7000 600000 0",
+            "4000000001 3 2 5 2 2 7000 600000 0",
+        ),
+        # Back is no jump.
+        refused("interval", 21, given(at(4_000_000_001, 107.0), 48), given(at(4_000_000_000, 107.0), 48), given(at(15, 107.0), 48)),
+        # A refused interval keeps nothing and makes nothing stale.
+        accepted(
+            at(4_000_000_002, 93.0),
+            "4000000002 1 3 5 3 3 -7000 600000 0",
+            "4000000002 2 4 5 0 0 -7000 600000 93000",  # run 4 = Ds: declared at 93,000
+            "4000000002 3 3 5 3 3 -7000 600000 0",
+        ),
+    ]
+
+
+def last_number():
+    """Numbers do not wrap: after 4294967295 every interval is 21 until a load."""
+    def at(number, mw):
+        return interval(number, AUTOMATIC, plain(mw))
+
+    return [
+        (load(ONE_UNIT), "load accepted 0"),
+        accepted(at(4_294_967_294, 100.0), "4294967294 1 0 1 0 0 0 0 0"),
+        accepted(at(4_294_967_295, 107.0), "4294967295 1 1 5 1 1 7000 600000 0"),
+        refused("interval", 21, *[given(at(number, 107.0), 16) for number in (0, 1, 4_294_967_294, 4_294_967_295)]),
+        (look(1), "look accepted 1 1 1 0"),
+        (load(ONE_UNIT), "load accepted 0"),
+        # After a load any number is a first one, 0 too, and 1 follows it.
+        accepted(at(0, 107.0), "0 1 0 1 0 0 0 0 0"),
+        refused("interval", 21, given(at(0, 107.0), 16)),
+        accepted(at(1, 93.0), "1 1 1 5 1 1 -7000 600000 0"),
+        # 4294967295 as the first number.
+        (load(ONE_UNIT), "load accepted 0"),
+        accepted(at(4_294_967_295, 107.0), "4294967295 1 0 1 0 0 0 0 0"),
+        refused("interval", 21, given(at(0, 107.0), 16)),
+    ]
+
+
+def full_plant():
+    """64 units and 16 aggregates of four, 1 -> 2 -> 3 -> 4 and so on: points 65 to 80."""
+    units = [(GENERATING, unit + 1 if unit % 4 else 0) for unit in range(1, 65)]
+
+    def at(number, last):
+        # All at their target but unit 64.
+        return interval(number, AUTOMATIC, *[plain(100.0, mode=2)] * 63, plain(last, mode=2))
+
+    # An aggregate at its target: MWO 400,000; least of four 3,000 each, 12,000; small trigger min(1,200,000, 2,400,000).
+    return [
+        (load(register(LENGTHS, units, range(1, 65, 4))), "load accepted 64"),
+        accepted(at(1, 100.0), *[f"1 {point} 0 1 0 0 0 0 0" for point in range(1, 81)]),
+        accepted(
+            at(2, 100.0),
+            *[f"2 {point} 0 2 0 0 0 600000 0" for point in range(1, 65)],
+            *[f"2 {point} 0 2 0 0 0 1200000 0" for point in range(65, 81)],
+        ),
+        # Unit 64 is 13,000 over. So is its aggregate, whose large trigger is min(2,000,000, 4,800,000): SMALL.
+        accepted(
+            at(3, 113.0),
+            *[f"3 {point} 0 2 0 0 0 600000 0" for point in range(1, 64)],
+            "3 64 1 5 1 1 13000 600000 0",
+            *[f"3 {point} 0 2 0 0 0 1200000 0" for point in range(65, 80)],
+            "3 80 1 4 1 0 13000 1200000 0",
+        ),
+        (look(80), "look accepted 1 1 0 0"),
+        refused("look", 10, look(81)),
+    ]
+
+
+def limits():
+    """The longest payload, 8,192 bytes, and the longest report, 4,096, are no script errors."""
+    return [
+        # 8,192 zeros as a register: n = 0.
+        refused("load", 2, load(bytes(8_192))),
+        refused("interval", 20, given(bytes(8_188), 4_096)),
+        (load(ONE_UNIT), "load accepted 0"),
+        refused("interval", 8, given(bytes(8_188), 4_096), given(bytes(8_188), 16), given(b"", 0)),
+        accepted(interval(0, MANUAL, plain(100.0)), "0 1 0 1 0 0 0 0 0"),
+    ]
+
+
+# ---- two lists that are alike for one group
+
+
+def alike(others, between):
+    """Chain 1 -> 2 (generating unit, load) with its aggregate, point 4, is the group; unit 3 in no chain is outside of it.
+
+    others: the five lines of unit 3 and what they print; between: operator calls outside the group, after each interval. Gives
+    the steps, each with whether it is the group's: the answer to an interval and the lines of points 1, 2 and 4 are.
+    """
+    registered = register(LENGTHS, [(GENERATING, 2), (LOAD, 0), (GENERATING, 0)], [1])
+
+    def one(mw):  # up FCR 1,000, down FCL 2,000; own triggers as `wide` says
+        return wide(mw, fcr=1_000, fcl=2_000, mode=2)
+
+    def two(mw, **changes):  # a load: up FCL 0, down FCR 500; own triggers 600,000: 5 x 100,000 is under that
+        return wide(mw, **({"mwb": 40_000, "mwo": 100_000, "fcr": 500, "mode": 2} | changes))
+
+    # The aggregate: kept MWB 100,000 - 40,000 = 60,000, up 1,000 + 500, down 2,000 + 0; MWO max(200,000, 100,000), ROC
+    # max(9,000, 9,000): small trigger 600,000, large 1,000,000.
+    lines, printed = others
+    steps = [(True, load(registered), "load accepted 2")]
+
+    def at(number, first, second, *texts):
+        buffer = interval(number, AUTOMATIC, first, second, lines[number - 1])
+        steps.append((True, given(buffer, 64), "interval accepted", *texts[:2]))
+        steps.append((False, b"", printed[number - 1]))
+        steps.append((True, b"", texts[2]))
+        steps.extend((False, *step) for step in between[number - 1])
+
+    def named(sent, text):
+        steps.append((True, sent, text))
+
+    # Nothing kept.
+    at(1, one(100.0), two(40.0), "1 1 0 1 0 0 0 0 0", "1 2 0 1 0 0 0 0 0", "1 4 0 1 0 0 0 0 0")
+    at(
+        2, one(109.0), two(33.0),
+        "2 1 1 4 1 0 8000 600000 0",  # 109,000 - 101,000: SMALL
+        "2 2 1 5 1 1 -6500 600000 0",  # -(39,500 - 33,000): LARGE
+        "2 4 1 5 1 1 14500 600000 0",  # 109,000 - 33,000 = 76,000; 76,000 - 61,500: LARGE
+    )
+    at(
+        3, one(108.0), two(40.0, mode=1),
+        "3 1 2 4 2 0 7000 600000 0",
+        "3 2 0 0 0 0 0 0 0",  # conformance mode 1: OFF
+        "3 4 2 4 2 0 6500 600000 0",  # not all modes 0: 68,000 - 61,500, SMALL
+    )
+    named(declare(1, 90_000), "declare accepted")
+    named(look(1), "look accepted 4 0 0 90000")
+    named(look(4), "look accepted 2 2 0 0")
+    named(declare(2, 0), "declare refused 22")
+    # Refused in both lists: the number of the last accepted, then a report one record short.
+    for number, report, refusal in ((3, 64, 21), (4, 48, 8)):
+        buffer = interval(number, AUTOMATIC, one(50.0), two(90.0), lines[number])
+        steps.append((True, given(buffer, report), f"interval refused {refusal}"))
+    at(
+        4, one(99.0), two(40.0),
+        "4 1 4 2 0 0 0 600000 90000",  # 98,000 to 101,000: no error; declared
+        "4 2 0 2 0 0 0 600000 0",  # the OFF line was kept
+        "4 4 0 2 0 0 0 600000 0",  # 59,000 within 58,000 to 61,500: CLEAR
+    )
+    named(reinstate(1), "reinstate accepted")
+    named(reinstate(4), "reinstate refused 23")
+    at(
+        5, one(50.0), two(40.0, mwb=-1),
+        "5 1 1 5 1 1 -48000 600000 0",  # -(98,000 - 50,000)
+        "5 2 0 1 0 0 0 0 0",  # a load's target below 0 is unreadable: BLANK
+        "5 4 0 1 0 0 0 0 0",  # so is its aggregate
+    )
+    named(look(1), "look accepted 1 1 1 0")
+    named(look(4), "look accepted 0 0 0 0")
+    return steps
+
+
+def alike_1():
+    """Unit 3 goes off target, is declared and reinstated."""
+    return alike(
+        (
+            [plain(100.0), plain(107.0), plain(93.0), plain(107.0), plain(107.0)],
+            [
+                "1 3 0 1 0 0 0 0 0",
+                "2 3 1 5 1 1 7000 600000 0",
+                "3 3 2 5 2 2 -7000 600000 0",
+                "4 3 1 5 1 1 7000 600000 0",  # run 1 after the reinstatement
+                "5 3 2 5 2 2 7000 600000 0",
+            ],
+        ),
+        [
+            [(look(3), "look accepted 0 0 0 0"), (look(0), "look refused 10")],
+            [(declare(3, 0), "declare refused 22"), (declare(5, 0), "declare refused 10")],
+            [
+                (declare(3, -5), "declare accepted"),
+                (look(3), "look accepted 4 0 0 -5"),
+                (reinstate(3), "reinstate accepted"),
+            ],
+            [],
+            [(declare(3, 107_000), "declare accepted")],
+        ],
+    )
+
+
+def alike_2():
+    """Unit 3 sends lines that cannot be read, are bad or are substituted; other operator calls."""
+    return alike(
+        (
+            [plain(100.0, mode=1), plain(107.0), plain(100.0), plain(0.0, quality=BAD), plain(107.0, quality=SUBSTITUTED)],
+            [
+                "1 3 0 1 0 0 0 0 0",  # conformance mode 1 in no chain: unreadable
+                "2 3 0 1 0 0 0 0 0",  # so nothing is kept
+                "3 3 0 2 0 0 0 600000 0",
+                "4 3 0 1 0 0 0 0 0",  # quality 2
+                "5 3 0 3 0 0 7000 600000 0",  # DOUBT
+            ],
+        ),
+        [
+            [],
+            [(reinstate(3), "reinstate refused 23")],
+            [(reinstate(2**32 - 1), "reinstate refused 10"), (declare(3, 128_000_001), "declare refused 11")],
+            [(look(3), "look accepted 0 0 0 0")],
+            [],
+        ],
+    )
+
+
+# ---- script errors
+
+
+def script_error(broken):
+    """A load, at bytes 0 to 27, then a call that cannot be read, whose tag is at byte 28, then a look that is not answered."""
+    before = load(ONE_UNIT)  # 8 + 20 bytes
+    return [
+        (before, "load accepted 0"),
+        (broken + look(1), "script error at byte 28"),
+    ]
+
+
+def cut_short(broken):
+    """The same, where the list ends within the call."""
+    return [
+        (load(ONE_UNIT), "load accepted 0"),
+        (broken, "script error at byte 28"),
+    ]
+
+
+SCRIPT_ERRORS = {
+    # The list ends within the tag, within the length, before the payload and within it.
+    "script_short_tag": cut_short(look(1)[:3]),
+    "script_short_length": cut_short(look(1)[:7]),
+    "script_no_payload": cut_short(look(1)[:8]),
+    "script_short_payload": cut_short(look(1)[:11]),
+    "script_short_interval": cut_short(given(interval(1, AUTOMATIC, plain(100.0)), 16)[:-1]),
+    # Tags that no call has; the third has the low byte of a look.
+    "script_tag_0": script_error(call(0, bytes(4))),
+    "script_tag_6": script_error(call(6, bytes(4))),
+    "script_tag_261": script_error(call(261, bytes([1, 0, 0, 0]))),
+    # Payloads of another size.
+    "script_declare_4": script_error(call(3, bytes([1, 0, 0, 0]))),
+    "script_declare_9": script_error(call(3, bytes(9))),
+    "script_reinstate_3": script_error(call(4, bytes(3))),
+    "script_reinstate_8": script_error(call(4, bytes(8))),
+    "script_look_0": script_error(call(5, b"")),
+    "script_look_5": script_error(call(5, bytes([1, 0, 0, 0, 0]))),
+    # A payload over 8,192 bytes, all there; and a length that no file has.
+    "script_load_8193": script_error(call(1, bytes(8_193))),
+    "script_interval_8193": script_error(call(2, bytes(8_193))),
+    "script_length_4294967295": script_error(struct.pack("<II", 1, 2**32 - 1)),
+    # A report over 4,096 bytes, at an interval that would be refused for its size else.
+    "script_report_4097": script_error(given(interval(1, AUTOMATIC, plain(100.0)), 4_097)),
+    # A payload with no room for the report's length.
+    "script_interval_3": script_error(call(2, bytes(3))),
+    "script_interval_0": script_error(call(2, b"")),
+    # The first call of the list.
+    "script_first": [(b"\5", "script error at byte 0")],
+    # Past many calls: 28 + 40 looks of 12 bytes.
+    "script_late": [
+        (load(ONE_UNIT), "load accepted 0"),
+        *[(look(1), "look accepted 0 0 0 0")] * 40,
+        (call(9, b""), "script error at byte 508"),
+    ],
+}
+
+LISTS = [every_status, operator_declaration, refusals_without_register, refusals_with_register, backlog, load_again, jump,
+         last_number, full_plant, limits]
+ALIKE = [alike_1, alike_2]
+# What `rt ci` runs the program on.
+CRATE_LIST = "every_status"
+
+
+# ---- the files
+
+
+def files_of(steps):
+    return {
+        "calls.bin": b"".join(sent for sent, *_ in steps),
+        "expected": "".join(f"{text}\n" for _, *texts in steps for text in texts).encode("ascii"),
+    }
+
+
+def group_of(steps):
+    """The group's lines, and their numbers in the output."""
+    texts = [(ours, text) for ours, _, *rest in steps for text in rest]
+    return [text for ours, text in texts if ours], [number for number, (ours, _) in enumerate(texts, 1) if ours]
+
+
+def made():
+    folders = {make.__name__: files_of(make()) for make in LISTS}
+    folders |= {name: files_of(steps) for name, steps in SCRIPT_ERRORS.items()}
+    for make in ALIKE:
+        steps = make()
+        _, numbers = group_of(steps)
+        folders[make.__name__] = files_of([step[1:] for step in steps]) | {
+            "group": "".join(f"{number}\n" for number in numbers).encode("ascii")}
+    # No list at all, and a list of no calls: nothing is printed.
+    folders["missing"] = {"expected": b""}
+    folders["empty"] = {"calls.bin": b"", "expected": b""}
+    out = {ROOT / "tests" / "calls" / name / file: content for name, files in folders.items() for file, content in files.items()}
+    out[ROOT / "crates" / "replay" / "data" / "calls.bin"] = folders[CRATE_LIST]["calls.bin"]
+    out[ROOT / "crates" / "replay" / "stdout"] = folders[CRATE_LIST]["expected"]
+    return out
+
+
+def main(arguments):
+    if arguments not in ([], ["--check"]):
+        sys.exit(__doc__)
+    first, second = (make() for make in ALIKE)
+    assert group_of(first)[0] == group_of(second)[0], "the group's lines differ between the two lists"
+    assert files_of([s[1:] for s in first])["expected"] != files_of([s[1:] for s in second])["expected"]
+    files = made()
+    if not arguments:
+        for path, content in files.items():
+            path.parent.mkdir(parents=True, exist_ok=True)
+            path.write_bytes(content)
+        print(f"{len(LISTS) + len(SCRIPT_ERRORS) + len(ALIKE) + 2} lists of calls")
+        return 0
+    differing = [path for path, content in files.items() if not path.is_file() or path.read_bytes() != content]
+    differing += [path for path in (ROOT / "tests" / "calls").glob("*/*") if path not in files]
+    for path in differing:
+        print(f"{path.relative_to(ROOT)} is not what tools/make_calls.py writes")
+    return 1 if differing else 0
+
+
+if __name__ == "__main__":
+    sys.exit(main(sys.argv[1:]))
