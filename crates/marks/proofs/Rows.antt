@@ -7,7 +7,7 @@ use Rattle.telemetry.specs.Lines.{powerOf}
 use Rattle.telemetry.specs.declared.Fields.{Fields}
 use Rattle.telemetry.specs.declared.Reading.the-variants.{Good}
 use Rattle.telemetry.proofs.Rows.{rows}
-use Rattle.marks.specs.Triggers.{directionOf, rateOf, capabilityOf, triggerOf}
+use Rattle.marks.specs.Triggers.{directionOf, rateOf, unitCapability, triggerOf}
 use Rattle.marks.specs.Errors.{errorOf, exceeds}
 use Rattle.marks.specs.Assessments.{kilowattsIn, isMissing, isDoubtful, isKnown, markOf, judged, upOf, downOf, unitBasis, readableAssessment, unitAssessment}
 use Rattle.marks.specs.Table.{Triggers, Assessed, Table, keptRow}
@@ -38,7 +38,7 @@ row : (kind : ℕ) (power : ℤ) (mark : Mark) (error : ℤ)
     → Assessed kind power mark error
 unfolding unitAssessment readableAssessment isKnown isMissing judged unitBasis kilowattsIn isDoubtful
 row kind power mark error e m f q p t =
-    let rate = rateOf (directionOf (f .target) power) (capabilityOf f) in
+    let rate = rateOf (directionOf (f .target) power) (unitCapability f) in
     let s : Triggers (f .availability) rate 600000 600000 = rw (good f q, p) at t in
     rw (good f q, p, e (f .availability) rate, s .0, s .1) (m, refl)
 

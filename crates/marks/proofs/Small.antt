@@ -19,7 +19,7 @@ use Rattle.telemetry.specs.declared.Reading.the-variants.{Good, Substituted, Mi
 use Rattle.trace.proofs.Tests.{and-l, and-r}
 use Rattle.telemetry.proofs.Floats.{kilowatts-size}
 use Rattle.telemetry.proofs.Clauses.{target-small, availability-small, raise-small, lower-small}
-use Rattle.marks.specs.Triggers.{directionOf, opposite, rateOf, capabilityOf, addCapability}
+use Rattle.marks.specs.Triggers.{directionOf, opposite, rateOf, capabilityOf, unitCapability, addCapability}
 use Rattle.marks.specs.KeptLines.{nothingKept, keptFrom, keptBounded}
 use Rattle.marks.specs.Errors.{overOf, underOf, errorOf}
 use Rattle.marks.specs.Assessments.{kilowattsIn, unitBasis}
@@ -83,7 +83,7 @@ power-small (Good x) = kilowatts-size x
 power-small (Substituted x) = kilowatts-size x
 power-small Missing = lit≤ tt
 
-pub capability-small : (f : Fields) → SmallFields f → SmallCapability 2000000 (capabilityOf f)
+pub capability-small : (f : Fields) → SmallFields f → SmallCapability 2000000 (unitCapability f)
 unfolding capabilityOf
 capability-small f s =
     record {
@@ -115,7 +115,7 @@ unit-small kind f k s t =
       up = wide (choice-small (eqb kind 2) (k .lower) (k .raise) (t .lower) (t .raise));
       down = wide (choice-small (eqb kind 2) (k .raise) (k .lower) (t .raise) (t .lower));
       availability = wide (s .availability);
-      rate = wide (rate-small (directionOf (f .target) (kilowattsIn (powerOf f))) (capabilityOf f) (capability-small f s));
+      rate = wide (rate-small (directionOf (f .target) (kilowattsIn (powerOf f))) (unitCapability f) (capability-small f s));
     }
 
 -- ---- sums over members: one more, and each is at most 2,000,000 larger
@@ -178,8 +178,8 @@ readable-more s kind f k b c d =
             raise = more (s .kept .raise) (k .raise) (b .kept .raise) (d .raise);
             lower = more (s .kept .lower) (k .lower) (b .kept .lower) (d .lower);
           };
-      supply = capability-more (not (isLoad kind)) (s .supply) (capabilityOf f) (b .supply) (capability-small f c);
-      loads = capability-more (isLoad kind) (s .loads) (capabilityOf f) (b .loads) (capability-small f c);
+      supply = capability-more (not (isLoad kind)) (s .supply) (unitCapability f) (b .supply) (capability-small f c);
+      loads = capability-more (isLoad kind) (s .loads) (unitCapability f) (b .loads) (capability-small f c);
     }
 
 unreadable-more : {n : ℕ} (s : Sums) → SmallSums n s → SmallSums n (addUnreadable s)

@@ -8,7 +8,7 @@ use Rattle.telemetry.specs.Lines.{powerOf}
 use Rattle.telemetry.specs.declared.Fields.{Fields}
 use Rattle.telemetry.specs.declared.Line.{Line}
 use Rattle.telemetry.specs.declared.Line.the-variants.{Readable, Unreadable}
-use Rattle.marks.specs.Triggers.{directionOf, opposite, rateOf, capabilityOf, addCapability}
+use Rattle.marks.specs.Triggers.{directionOf, opposite, rateOf, unitCapability, addCapability}
 use Rattle.marks.specs.Assessments.{kilowattsIn, isDoubtful, isKnown, judged, without}
 use Rattle.marks.specs.declared.Direction.{Direction}
 use Rattle.marks.specs.declared.Capability.{Capability}
@@ -61,8 +61,8 @@ addReadable s kind f k =
       flags = addFlags (s .flags) f k;
       present = addPresent (isLoad kind) (s .present) f;
       kept = addKept (isLoad kind) (s .kept) k;
-      supply = addCapability (not (isLoad kind)) (s .supply) (capabilityOf f);
-      loads = addCapability (isLoad kind) (s .loads) (capabilityOf f);
+      supply = addCapability (not (isLoad kind)) (s .supply) (unitCapability f);
+      loads = addCapability (isLoad kind) (s .loads) (unitCapability f);
     }
 
 abbrev pub unreadableFlags : Flags → Flags

@@ -10,7 +10,7 @@ use Rattle.telemetry.specs.declared.Line.{Line}
 use Rattle.telemetry.specs.declared.Line.the-variants.{Readable, Unreadable}
 use Rattle.telemetry.specs.declared.Reading.{Reading}
 use Rattle.telemetry.specs.declared.Reading.the-variants.{Good, Substituted, Missing}
-use Rattle.marks.specs.Triggers.{directionOf, rateOf, capabilityOf, smallTrigger, largeTrigger}
+use Rattle.marks.specs.Triggers.{directionOf, rateOf, unitCapability, smallTrigger, largeTrigger}
 use Rattle.marks.specs.Errors.{errorOf, exceeds}
 use Rattle.marks.specs.declared.Kept.{Kept}
 use Rattle.marks.specs.declared.Sight.{Sight}
@@ -80,7 +80,7 @@ unitBasis kind f k =
       up = upOf kind k;
       down = downOf kind k;
       availability = f .availability;
-      rate = rateOf (directionOf (f .target) power) (capabilityOf f);
+      rate = rateOf (directionOf (f .target) power) (unitCapability f);
       doubtful = isDoubtful (powerOf f);
     }
 

@@ -4,6 +4,7 @@ use Prim.Native.Nat.{ℕ, _+_, _*_, min, max}
 use lib.IntN.{ℤ, natAbs}
 use lib.Signed.{ltZ}
 use Rattle.telemetry.specs.Kilowatts.{kilowattsOf}
+use Rattle.telemetry.specs.declared.Readings.{Readings}
 use Rattle.telemetry.specs.declared.Fields.{Fields}
 use Rattle.marks.specs.declared.Direction.{Direction}
 use Rattle.marks.specs.declared.Direction.the-variants.{Up, Down, Level}
@@ -16,11 +17,15 @@ unfoldable pub directionOf : ℤ → ℤ → Direction
 directionOf target power = cond (ltZ power target) Up (cond (ltZ target power) Down Level)
 
 -- "the lesser of SCADA and bid ramp up; .. of the ramp downs; .. the least of all four". A readable line's rates are not negative
-unfoldable pub capabilityOf : Fields → Capability
-capabilityOf f =
-    let rises = min (natAbs (kilowattsOf (f .readings .«ramp_up»))) (f .«bid_up») in
-    let falls = min (natAbs (kilowattsOf (f .readings .«ramp_down»))) (f .«bid_down») in
-    record { availability = f .availability; up = rises; down = falls; least = min rises falls }
+unfoldable pub capabilityOf : Readings → ℕ → ℕ → ℕ → Capability
+capabilityOf readings availability bidUp bidDown =
+    let rises = min (natAbs (kilowattsOf (readings .«ramp_up»))) bidUp in
+    let falls = min (natAbs (kilowattsOf (readings .«ramp_down»))) bidDown in
+    record { availability = availability; up = rises; down = falls; least = min rises falls }
+
+-- of a unit, by its line
+abbrev pub unitCapability : Fields → Capability
+unitCapability f = capabilityOf (f .readings) (f .availability) (f .«bid_up») (f .«bid_down»)
 
 unfoldable pub rateOf : Direction → Capability → ℕ
 rateOf Up c = c .up

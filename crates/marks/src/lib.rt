@@ -16,6 +16,7 @@ ghost use Rattle.marks.specs.Hosts.{markNumber, secondMark, unitMarkOf};
 use telemetry::Fields;
 use telemetry::Line;
 use telemetry::Reading;
+use telemetry::Readings;
 
 // ---- rate of change
 
@@ -108,14 +109,14 @@ fn allowed_rate(scada: f32, bid: u32) -> u64
     lesser(size, bid as u64)
 }
 
-fn capability_of(f: Fields) -> Capability
-    ensures { λ r. ⌜ r ≡ capabilityOf f ⌝ }
+// A unit's own, from the readings, the availability and the bid rates of its line.
+fn capability_of(readings: Readings, availability: u32, bid_up: u32, bid_down: u32) -> Capability
+    ensures { λ r. ⌜ r ≡ capabilityOf readings availability «bid_up» «bid_down» ⌝ }
 {
-    let readings = f.readings;
-    let up = allowed_rate(readings.ramp_up, f.bid_up);
-    let down = allowed_rate(readings.ramp_down, f.bid_down);
+    let up = allowed_rate(readings.ramp_up, bid_up);
+    let down = allowed_rate(readings.ramp_down, bid_down);
     Capability {
-        availability: f.availability as u64,
+        availability: availability as u64,
         up,
         down,
         least: lesser(up, down),
@@ -344,13 +345,15 @@ fn unit_basis(kind: u8, f: Fields, k: Kept) -> Basis
     let reading = f.power();
     let power = signed::widened(power_in(reading));
     let direction = direction_of(signed::widened(f.target), power);
+    let readings = f.readings;
+    let unit = capability_of(readings, f.availability, f.bid_up, f.bid_down);
     Basis {
         power,
         target: signed::widened(k.target),
         up: up_of(kind, k),
         down: down_of(kind, k),
         availability: f.availability as u64,
-        rate: capability_of(f).rate(direction),
+        rate: unit.rate(direction),
         doubtful: is_doubtful(reading),
     }
 }
@@ -512,7 +515,8 @@ impl Sums {
         let kept = self.kept;
         let supply = self.supply;
         let loads = self.loads;
-        let unit = capability_of(f);
+        let readings = f.readings;
+        let unit = capability_of(readings, f.availability, f.bid_up, f.bid_down);
         Sums {
             flags: flags.plus(f, k),
             present: present.plus(load, f),

@@ -7,6 +7,8 @@ use Prim.Native.Nat.{ℕ, zero, suc, _+_, _*_, _≤_}
 use lib.IntN.{ℤ}
 use lib.ListN.{length, take, drop}
 use Rattle.trace.specs.Lists.{outcomes, Alike, sights, Since}
+use Rattle.register.specs.Chains.{allMembers}
+use Rattle.register.specs.Registers.{answerNumber, answerVisits, registeredOf, registerRefusal}
 use Rattle.register.specs.declared.Answer.the-variants.{Accepted}
 use Rattle.register.specs.declared.Plant.{Plant}
 use Rattle.marks.specs.declared.Mark.the-variants.{Small, Large}
@@ -110,7 +112,10 @@ pub record Demand3 (plant : Plant) (m : Monitor) : Type 0 where
   -- 3. bridge: every acceptance, refusal number, report and look is the one that the history gives
   pub bridge : (calls : List Call) → run m calls ≡ outcomes (extend plant) (foretold plant) begin calls
 
--- What load promises: its result, and demand 3 of the state that an accepted one returns.
+-- What load promises: its result, its number and visits in 01, and demand 3 of the state that an accepted one returns. The visits "equal
+-- the number of units in chains" of the plant that the bytes give, which has none where they are refused.
 pub record Loads (old : Monitor) (bytes : List ℕ) (r : Loaded) : Type 0 where
   pub result : r ≡ loadOf old bytes
+  pub number : answerNumber (r .answer) ≡ registerRefusal bytes
+  pub visits : answerVisits (r .answer) ≡ length (allMembers (registeredOf bytes .plant))
   pub demand3 : (visits : ℕ) → r .answer ≡ Accepted visits → Demand3 (r .monitor .plant) (r .monitor)

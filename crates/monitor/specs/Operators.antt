@@ -1,16 +1,19 @@
 -- The operator calls (01, "Report and operator calls"): what is permitted on a point's record, what it becomes, and what is
 -- answered.
-use mathlib.Core.Bool.{Bool, cond, _||_}
+use mathlib.Core.Path.{_≡_}
+use mathlib.Core.Bool.{Bool, cond, _||_, not}
+use mathlib.Core.List.{List, [], _∷_}
 use Prim.Native.Nat.{ℕ}
 use lib.Dec.{leb, eqb}
 use lib.IntN.{ℤ, natAbs}
 use lib.ListN.{set}
+use Rattle.trace.specs.Refusals.{Refusal, firstOf}
 use Rattle.register.specs.declared.Plant.{Plant}
 use Rattle.points.specs.Points.{normal, declaredAt}
 use Rattle.points.specs.declared.Point.{Point}
 use Rattle.monitor.specs.Plants.{place, named}
 use Rattle.monitor.specs.Monitors.{pointAt, soundOf}
-use Rattle.monitor.specs.Intervals.{decide}
+use Rattle.monitor.specs.Intervals.{decide, verdictNumber}
 use Rattle.monitor.specs.declared.Monitor.{Monitor}
 use Rattle.monitor.specs.declared.Verdict.{Verdict}
 use Rattle.monitor.specs.declared.Verdict.the-variants.{Accept, Refuse}
@@ -49,6 +52,18 @@ locateOf m p = cond (soundOf m) (cond (named (m .plant) p) Accept (Refuse 10)) (
 
 unfoldable pub operatorVerdict : Operator → Monitor → ℕ → Verdict
 operatorVerdict op m p = cond (soundOf m) (judgeOperator (m .plant) op p (pointAt m (place p))) (Refuse 20)
+
+-- a call's own refusals, on the record of the point that it names: "the list above in rising number", here 11, "then these", here 22 and 23
+unfoldable pub ownRefusals : Operator → Point → List Refusal
+ownRefusals (declare level) q = (11, not (allowedLevel level)) ∷ (22, not (eqb (q .status) 2 || eqb (q .status) 3)) ∷ []
+ownRefusals reinstate q = (23, not (eqb (q .status) 4)) ∷ []
+ownRefusals look q = []
+
+-- the number in 01 of the first refusal that applies, 0 where none does: "Order: 20, then the list above in rising number", here 10, then
+-- the call's own
+unfoldable pub operatorRefusal : Operator → Monitor → ℕ → ℕ
+operatorRefusal op m p =
+    firstOf ((20, not (soundOf m)) ∷ (10, not (named (m .plant) p)) ∷ ownRefusals op (pointAt m (place p)))
 
 -- the state with one point's record written
 unfoldable pub stored : Monitor → ℕ → Point → Monitor
@@ -99,3 +114,14 @@ unfoldable pub lookedOf : Monitor → ℕ → Looked
 lookedOf m p =
     let v = operatorVerdict look m p in
     record { verdict = v; point = decide v (λ k. normal) (pointAt m (place p)); monitor = m }
+
+-- the values of a look, status, runs and level: the point's own, "zero values" where it is refused
+unfoldable pub lookValues : Verdict → Point → Point
+lookValues Accept q = q
+lookValues (Refuse k) q = normal
+
+-- what look promises
+pub record Looks (m : Monitor) (p : ℕ) (r : Looked) : Type 0 where
+  pub result : r ≡ lookedOf m p
+  pub number : verdictNumber (r .verdict) ≡ operatorRefusal look m p
+  pub values : r .point ≡ lookValues (r .verdict) (pointAt m (place p))

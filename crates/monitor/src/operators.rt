@@ -8,7 +8,9 @@ ghost use mathlib.Core.Path.{_≡_};
 ghost use mathlib.Core.Bool.{_&&_};
 ghost use Prim.Native.Nat.{_+_, _≤_, _<_};
 ghost use lib.Dec.{leb};
-ghost use Rattle.monitor.specs.Operators.{permitDeclare, permitReinstate, locateOf, stored, declareAt, reinstateAt, lookedAt, declareOf, reinstateOf, lookedOf};
+ghost use Rattle.monitor.specs.Intervals.{Answered};
+ghost use Rattle.monitor.specs.Operators.{declare, reinstate, operatorRefusal, permitDeclare, permitReinstate, locateOf, stored};
+ghost use Rattle.monitor.specs.Operators.{declareAt, reinstateAt, lookedAt, declareOf, reinstateOf, Looks};
 
 // 10: a point from 1 to n+m.
 fn is_named(units: usize, aggregates: usize, point: u32) -> bool
@@ -102,7 +104,7 @@ fn reinstate_at(m: Monitor, i: usize) -> Stepped
 
 // Declares a point at a level. A refusal, 20, 10, 11 or 22, returns the old state.
 pub fn declare(m: Monitor, point: u32, level: i32) -> Stepped
-    ensures { λ r. ⌜ r ≡ declareOf m point level ⌝ }
+    ensures { λ r. ⌜ Answered (declareOf m point level) (operatorRefusal (declare level) m point) r ⌝ }
 {
     let found = locate(m, point);
     match found {
@@ -116,7 +118,7 @@ pub fn declare(m: Monitor, point: u32, level: i32) -> Stepped
 
 // Reinstates a declared point. A refusal, 20, 10 or 23, returns the old state.
 pub fn reinstate(m: Monitor, point: u32) -> Stepped
-    ensures { λ r. ⌜ r ≡ reinstateOf m point ⌝ }
+    ensures { λ r. ⌜ Answered (reinstateOf m point) (operatorRefusal reinstate m point) r ⌝ }
 {
     let found = locate(m, point);
     match found {
@@ -141,7 +143,7 @@ fn look_at(m: Monitor, i: usize) -> Looked
 
 // A point's status, runs and level. A refusal, 20 or 10, gives zeros. The state stays as it is.
 pub fn look(m: Monitor, point: u32) -> Looked
-    ensures { λ r. ⌜ r ≡ lookedOf m point ⌝ }
+    ensures { λ r. ⌜ Looks m point r ⌝ }
 {
     let found = locate(m, point);
     match found {

@@ -19,7 +19,8 @@ use Rattle.register.specs.Fields.{unitCount, aggregateCount, lengthsAt, 
 use Rattle.register.specs.Chains.{chain, Chain, membersOf, allMembers, timesIn, metAt, chainedOf, withChains}
 use Rattle.register.specs.Rules.{longEnough, countsIn, wholeLength, rising, headerSpare, unitsSpare, headsSpare, onceAt, endsAt}
 use Rattle.register.specs.Plants.{kindsKnown, indicesIn, metOnce, restEnds, plantSound}
-use Rattle.register.specs.Registers.{visitsOf, noPlant, unless, refusedBy, acceptedAs, lengthsRise, fieldsKnown, chainedFrom, recordsFrom, registeredOf}
+use Rattle.register.specs.Registers.{answerVisits, noPlant, unless, refusedBy, acceptedAs}
+use Rattle.register.specs.Registers.{lengthsRise, fieldsKnown, chainedFrom, recordsFrom, registeredOf}
 use Rattle.register.proofs.Soundness.{sound-by, sound-units, sound-indices, head-least}
 use Rattle.register.proofs.Chains.{chain-whole, chain-same, units-in}
 use Rattle.register.proofs.Walks.{members-units, all-units, length-chained}
@@ -164,16 +165,17 @@ pub no-plant-unsound : plantSound noPlant ≡ false
 unfolding plantSound noPlant
 no-plant-unsound = refl
 
-refused-visits : (number : ℕ) → visitsOf (refusedBy number .answer) ≡ length (allMembers (refusedBy number .plant))
-unfolding refusedBy noPlant allMembers records
+refused-visits : (number : ℕ) → answerVisits (refusedBy number .answer) ≡ length (allMembers (refusedBy number .plant))
+unfolding answerVisits refusedBy noPlant allMembers records
 refused-visits number = refl
 
 -- the visits are the number of units in the chains of the plant that is returned; a refused register returns none
-pub visits-counted : (bytes : List ℕ) → visitsOf (registeredOf bytes .answer) ≡ length (allMembers (registeredOf bytes .plant))
+pub visits-counted : (bytes : List ℕ) → answerVisits (registeredOf bytes .answer) ≡ length (allMembers (registeredOf bytes .plant))
+unfolding answerVisits
 visits-counted bytes = go (register-settled bytes)
   where
-    go : Settled (registeredOf bytes) → visitsOf (registeredOf bytes .answer) ≡ length (allMembers (registeredOf bytes .plant))
-    go (inl s) = ap visitsOf (s .1) ∙ accepted-visits bytes (s .0) (s .1)
+    go : Settled (registeredOf bytes) → answerVisits (registeredOf bytes .answer) ≡ length (allMembers (registeredOf bytes .plant))
+    go (inl s) = ap answerVisits (s .1) ∙ accepted-visits bytes (s .0) (s .1)
     go (inr s) = rw (s .1 .1) (refused-visits (s .0))
 
 -- ---- refusal 6, whatever the order of the chains: no unit twice in a chain, and none in two

@@ -6,3 +6,4 @@ pub mod Members
 pub mod Verdicts
 pub mod Readings
 pub mod Accepted
+pub mod Refusals

@@ -1,9 +1,11 @@
 -- A register is refused by the first rule that it fails: short 1, then 2, length 1, 3, 4 over the whole register, 5 over the whole
 -- register, 6, 7 (01, "Refused because of what was sent").
-use mathlib.Core.Bool.{Bool, false, cond, _&&_}
-use mathlib.Core.List.{List}
+use mathlib.Core.Path.{_≡_}
+use mathlib.Core.Bool.{Bool, false, cond, _&&_, not}
+use mathlib.Core.List.{List, [], _∷_}
 use Prim.Native.Nat.{ℕ}
 use lib.ListN.{length, replicate}
+use Rattle.trace.specs.Refusals.{firstOf}
 use Rattle.register.specs.declared.Answer.{Answer}
 use Rattle.register.specs.declared.Answer.the-variants.{Accepted, Refused}
 use Rattle.register.specs.declared.Lengths.{Lengths}
@@ -16,15 +18,15 @@ use Rattle.register.specs.Plants.{kindsKnown, indicesIn, metOnce, restEn
 
 -- ---- the answer in 01's numbers
 
--- 0 where it is accepted
-abbrev pub numberOf : Answer → ℕ
-numberOf (Accepted visits) = 0
-numberOf (Refused number) = number
+-- the refusal's number in 01, 0 where it is accepted
+unfoldable pub answerNumber : Answer → ℕ
+answerNumber (Accepted visits) = 0
+answerNumber (Refused number) = number
 
--- 0 where it is refused
-abbrev pub visitsOf : Answer → ℕ
-visitsOf (Accepted visits) = visits
-visitsOf (Refused number) = 0
+-- the visits, 0 where it is refused
+unfoldable pub answerVisits : Answer → ℕ
+answerVisits (Accepted visits) = visits
+answerVisits (Refused number) = 0
 
 -- ---- what is returned
 
@@ -79,3 +81,28 @@ registeredOf bytes =
     (unless (wholeLength bytes) 1
     (unless (lengthsRise bytes) 3
     (recordsFrom bytes))))
+
+-- ---- the refusal
+
+-- the number in 01 of the first rule that the bytes fail, 0 where they fail none: "Register order: short 1, then 2, length 1, 3, then
+-- 4 over the whole register, then 5 over the whole register, then 6, 7"
+unfoldable pub registerRefusal : List ℕ → ℕ
+registerRefusal bytes =
+    firstOf
+    ((1, not (longEnough bytes))
+    ∷ (2, not (countsIn (unitCount bytes) (aggregateCount bytes)))
+    ∷ (1, not (wholeLength bytes))
+    ∷ (3, not (lengthsRise bytes))
+    ∷ (4, not (fieldsKnown bytes))
+    ∷ (5, not (indicesIn (fieldsOf bytes)))
+    ∷ (6, not (metOnce (fieldsOf bytes)))
+    ∷ (7, not (restEnds (withChains (fieldsOf bytes))))
+    ∷ [])
+
+-- ---- what reading promises
+
+-- The visits "equal the number of units in chains"; a refused register returns a plant with none.
+pub record Reads (bytes : List ℕ) (r : Registered) : Type 0 where
+  pub result : r ≡ registeredOf bytes
+  pub number : answerNumber (r .answer) ≡ registerRefusal bytes
+  pub visits : answerVisits (r .answer) ≡ length (allMembers (r .plant))

@@ -11,7 +11,7 @@ ghost use mathlib.Core.Bool.{true, _&&_, _||_};
 ghost use Prim.Native.Nat.{_<_};
 ghost use Rattle.register.specs.Chains.{chainedOf, withChains};
 ghost use Rattle.register.specs.Plants.{plantSound};
-ghost use Rattle.register.specs.Registers.{noPlant, refusedBy, chainedFrom, recordsFrom, registeredOf};
+ghost use Rattle.register.specs.Registers.{answerNumber, answerVisits, noPlant, refusedBy, chainedFrom, recordsFrom, Reads};
 ghost use Rattle.register.specs.Walks.{Headed};
 
 // Run lengths: to Not-Responding, to Pending, to declaration.
@@ -37,6 +37,28 @@ pub struct Plant {
 pub enum Answer {
     Accepted(u32),
     Refused(u32),
+}
+
+impl Answer {
+    // The refusal's number, 0 where the register is accepted.
+    pub fn number(self) -> u32
+        ensures { λ r. ⌜ r ≡ answerNumber self ⌝ }
+    {
+        match self {
+            Answer::Accepted(_) => 0,
+            Answer::Refused(number) => number,
+        }
+    }
+
+    // The visits, 0 where it is refused.
+    pub fn visits(self) -> u32
+        ensures { λ r. ⌜ r ≡ answerVisits self ⌝ }
+    {
+        match self {
+            Answer::Accepted(visits) => visits,
+            Answer::Refused(_) => 0,
+        }
+    }
 }
 
 // A refused register gives a plant of zeros.
@@ -157,7 +179,7 @@ fn records_from(bytes: &[u8]) -> Registered
 
 // Any bytes can be sent. A refused register loads nothing.
 pub fn read_register(bytes: &[u8]) -> Registered
-    ensures { λ r. ⌜ r ≡ registeredOf (now (bytes .entry)) ⌝ }
+    ensures { λ r. ⌜ Reads (now (bytes .entry)) r ⌝ }
 {
     if bytes.len() < 16 {
         return refused(1);

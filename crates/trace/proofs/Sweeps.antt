@@ -172,6 +172,23 @@ unfolding records
 records-same f g zero h = refl
 records-same f g (suc k) h = ap₂ (_++_ {A = ℕ}) (records-same f g k (λ i l. h i (omega arith))) (h k (omega arith))
 
+-- fewer records are no longer
+pub records-rise : (f : ℕ → List ℕ) (i k : ℕ) → i ≤ k → length (records f i) ≤ length (records f k)
+unfolding records
+records-rise f i zero h = let e : i ≡ 0 = omega arith in rw e (omega arith)
+records-rise f i (suc k) h = go (below-or-not k i) (records-rise f i k)
+  where
+    go : (k < i) ⊎ (i ≤ k) → (i ≤ k → length (records f i) ≤ length (records f k)) → length (records f i) ≤ length (records f k ++ f k)
+    go (inl l) shorter = let e : i ≡ suc k = omega arith in rw e (omega arith)
+    go (inr l) shorter = rw length-append (omega (arith, shorter l))
+
+pub records-at-most : (f : ℕ → List ℕ) (most k : ℕ) → ((i : ℕ) → i < k → length (f i) ≤ most) → length (records f k) ≤ most * k
+unfolding records
+records-at-most f most zero h = omega arith
+records-at-most f most (suc k) h =
+    let before = records-at-most f most k (λ i l. h i (omega arith)) in
+    rw length-append (omega (arith, before, h k (omega arith), mul-suc most k))
+
 -- ---- records of one size
 
 module _ (f : ℕ → List ℕ) (size : ℕ) (sized : (i : ℕ) → length (f i) ≡ size) where

@@ -7,27 +7,52 @@ use marks::Mark;
 use marks::Sight;
 use marks::Sums;
 
-fn name(mark: Mark) {
+fn put_mark(out: &mut [u8], at: usize, mark: Mark) -> usize {
     match mark {
-        Mark::Off => print::text(b"OFF"),
-        Mark::Blank => print::text(b"BLANK"),
-        Mark::Clear => print::text(b"CLEAR"),
-        Mark::Doubt => print::text(b"DOUBT"),
-        Mark::Small => print::text(b"SMALL"),
-        Mark::Large => print::text(b"LARGE"),
+        Mark::Off => text::put_bytes(out, at, b"OFF"),
+        Mark::Blank => text::put_bytes(out, at, b"BLANK"),
+        Mark::Clear => text::put_bytes(out, at, b"CLEAR"),
+        Mark::Doubt => text::put_bytes(out, at, b"DOUBT"),
+        Mark::Small => text::put_bytes(out, at, b"SMALL"),
+        Mark::Large => text::put_bytes(out, at, b"LARGE"),
     }
 }
 
-fn show(a: Assessment) {
+// A space and a signed number.
+fn put_whole(out: &mut [u8], at: usize, z: i32) -> usize {
+    let next = text::put_bytes(out, at, b" ");
+    text::put_whole(out, next, z)
+}
+
+fn put_assessment(out: &mut [u8], at: usize, a: Assessment) -> usize {
     let mark = a.mark;
-    name(mark);
-    print::text(b" ");
-    print::whole(a.error);
-    print::text(b" ");
-    print::number(a.trigger);
-    print::text(b" ");
-    print::whole(a.power);
-    print::text(b"\n");
+    let mut next = put_mark(out, at, mark);
+    next = put_whole(out, next, a.error);
+    next = text::put_bytes(out, next, b" ");
+    next = text::put_number(out, next, a.trigger as u64);
+    put_whole(out, next, a.power)
+}
+
+fn print_case(label: &[u8], assessment: Assessment) {
+    let mut out = io::buffer();
+    let mut next = text::put_bytes(&mut out, 0, label);
+    next = text::put_bytes(&mut out, next, b": ");
+    next = put_assessment(&mut out, next, assessment);
+    next = text::put_bytes(&mut out, next, b"\n");
+    output::write(b"trial_marks: standard output", &out, next);
+}
+
+// A unit at this interval's line, and at the one before it where that is kept.
+fn sight_of(kind: u8, chained: bool, line: &[u8], is_kept: bool, before: &[u8]) -> Sight
+    ensures { λ r. ⌜ SmallSight r ⌝ }
+{
+    let line = telemetry::read_line(kind, chained, line);
+    let kept = if is_kept {
+        marks::kept_from(telemetry::read_line(kind, chained, before))
+    } else {
+        marks::nothing_kept()
+    };
+    Sight { kind, line, kept }
 }
 
 // The unit that starts at `at`: its kind, 1 where a line is kept, this interval's line and the one before it.
@@ -35,18 +60,16 @@ fn sight_at(units: &[u8], at: usize, chained: bool) -> Sight
     requires { ⌜ at + 82 ≤ length (now units) ⌝ }
     ensures { λ r. ⌜ SmallSight r ⌝ }
 {
-    let kind = units[at];
-    let later = at + 2;
-    let earlier = at + 42;
+    let line = at + 2;
+    let before = at + 42;
     let end = at + 82;
-    let line = telemetry::read_line(kind, chained, &units[later..earlier]);
-    let before = marks::kept_from(telemetry::read_line(kind, chained, &units[earlier..end]));
-    let kept = if units[at + 1] == 1 {
-        before
-    } else {
-        marks::nothing_kept()
-    };
-    Sight { kind, line, kept }
+    sight_of(
+        units[at],
+        chained,
+        &units[line..before],
+        units[at + 1] == 1,
+        &units[before..end],
+    )
 }
 
 // The sums over `count` members, first to last; where fewer are given, they come round again.
@@ -105,9 +128,8 @@ fn one(cases: &[u8], at: usize) -> usize
     if count > 64 {
         return cases.len();
     }
-    print::text(&cases[label..form]);
-    print::text(b": ");
-    show(assess(cases[form], &cases[units..end], given, count));
+    let assessment = assess(cases[form], &cases[units..end], given, count);
+    print_case(&cases[label..form], assessment);
     end
 }
 

@@ -2,7 +2,6 @@
 // register's length in two bytes, the low one first, and the register. tools/trial_register.py makes the cases and the lines.
 ghost use Prim.Native.Nat.{_<_};
 ghost use lib.ListN.{length};
-use libc::STDOUT_FILENO;
 use register::Answer;
 
 fn wide(b: u8) -> usize
@@ -11,29 +10,20 @@ fn wide(b: u8) -> usize
     b as usize
 }
 
-fn print_answer(answer: Answer) {
+fn put_answer(out: &mut [u8], at: usize, answer: Answer) -> usize {
     match answer {
-        Answer::Accepted(visits) => {
-            io::write_all(STDOUT_FILENO, b": accepted ");
-            io::print_decimal(STDOUT_FILENO, visits as u64);
-        }
-        Answer::Refused(number) => {
-            io::write_all(STDOUT_FILENO, b": refused ");
-            io::print_decimal(STDOUT_FILENO, number as u64);
-        }
+        Answer::Accepted(visits) => text::put_numbered(out, at, b": accepted", visits as u64),
+        Answer::Refused(number) => text::put_numbered(out, at, b": refused", number as u64),
     }
-    io::write_all(STDOUT_FILENO, b"\n");
 }
 
 fn print_case(label: &[u8], bytes: &[u8]) {
-    io::write_all(STDOUT_FILENO, label);
     let registered = register::read_register(bytes);
     let answer = registered.answer;
-    print_answer(answer);
-}
-
-fn print_truncated() {
-    io::write_all(STDOUT_FILENO, b"truncated case\n");
+    let mut out = io::buffer();
+    let mut next = text::put_bytes(&mut out, 0, label);
+    next = put_answer(&mut out, next, answer);
+    output::write(b"trial_register: standard output", &out, next);
 }
 
 // Runs the case at `at`, and answers where the next one starts.
@@ -43,18 +33,16 @@ fn run_case(input: &[u8], at: usize) -> usize
 {
     let label = at + 1;
     let size = label + wide(input[at]);
-    if input.len() < size + 2 {
-        print_truncated();
-        return input.len();
-    }
     let from = size + 2;
-    let to = from + wide(input[size]) + 256 * wide(input[size + 1]);
-    if input.len() < to {
-        print_truncated();
-        return input.len();
+    if from <= input.len() {
+        let to = from + wide(input[size]) + 256 * wide(input[size + 1]);
+        if to <= input.len() {
+            print_case(&input[label..size], &input[from..to]);
+            return to;
+        }
     }
-    print_case(&input[label..size], &input[from..to]);
-    to
+    output::write(b"trial_register: standard output", b"truncated case\n", 15);
+    input.len()
 }
 
 fn run_cases(input: &[u8]) {

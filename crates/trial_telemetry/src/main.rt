@@ -5,45 +5,60 @@ use telemetry::Fields;
 use telemetry::Line;
 use telemetry::Reading;
 
-fn quality(reading: Reading) {
+fn put_quality(out: &mut [u8], at: usize, reading: Reading) -> usize {
     match reading {
-        Reading::Good(_) => print::text(b"good"),
-        Reading::Substituted(_) => print::text(b"substituted"),
-        Reading::Missing => print::text(b"missing"),
+        Reading::Good(_) => text::put_bytes(out, at, b"good"),
+        Reading::Substituted(_) => text::put_bytes(out, at, b"substituted"),
+        Reading::Missing => text::put_bytes(out, at, b"missing"),
     }
 }
 
-fn next_number(n: u32) {
-    print::text(b" ");
-    print::number(n);
+// A space and a number.
+fn put_number(out: &mut [u8], at: usize, n: u32) -> usize {
+    let next = text::put_bytes(out, at, b" ");
+    text::put_number(out, next, n as u64)
 }
 
-fn next_whole(z: i32) {
-    print::text(b" ");
-    print::whole(z);
+// A space and a signed number.
+fn put_whole(out: &mut [u8], at: usize, z: i32) -> usize {
+    let next = text::put_bytes(out, at, b" ");
+    text::put_whole(out, next, z)
 }
 
-fn fields(f: Fields) {
+// Bid rates and readings.
+fn put_rates(out: &mut [u8], at: usize, f: Fields) -> usize {
     let readings = f.readings;
-    quality(f.power());
-    next_number(f.mode as u32);
-    next_whole(f.target);
-    next_number(f.availability);
-    next_number(f.raise);
-    next_number(f.lower);
-    next_number(f.bid_up);
-    next_number(f.bid_down);
-    next_whole(telemetry::kilowatts(readings.power));
-    next_whole(telemetry::kilowatts(readings.ramp_up));
-    next_whole(telemetry::kilowatts(readings.ramp_down));
+    let mut next = put_number(out, at, f.bid_up);
+    next = put_number(out, next, f.bid_down);
+    next = put_whole(out, next, telemetry::kilowatts(readings.power));
+    next = put_whole(out, next, telemetry::kilowatts(readings.ramp_up));
+    put_whole(out, next, telemetry::kilowatts(readings.ramp_down))
 }
 
-fn show(line: Line) {
+fn put_fields(out: &mut [u8], at: usize, f: Fields) -> usize {
+    let mut next = put_quality(out, at, f.power());
+    next = put_number(out, next, f.mode as u32);
+    next = put_whole(out, next, f.target);
+    next = put_number(out, next, f.availability);
+    next = put_number(out, next, f.raise);
+    next = put_number(out, next, f.lower);
+    put_rates(out, next, f)
+}
+
+fn put_line(out: &mut [u8], at: usize, line: Line) -> usize {
     match line {
-        Line::Readable(f) => fields(f),
-        Line::Unreadable => print::text(b"unreadable"),
+        Line::Readable(f) => put_fields(out, at, f),
+        Line::Unreadable => text::put_bytes(out, at, b"unreadable"),
     }
-    print::text(b"\n");
+}
+
+fn print_case(label: &[u8], line: Line) {
+    let mut out = io::buffer();
+    let mut next = text::put_bytes(&mut out, 0, label);
+    next = text::put_bytes(&mut out, next, b": ");
+    next = put_line(&mut out, next, line);
+    next = text::put_bytes(&mut out, next, b"\n");
+    output::write(b"trial_telemetry: standard output", &out, next);
 }
 
 fn size(b: u8) -> usize
@@ -68,9 +83,8 @@ fn one(cases: &[u8], at: usize) -> usize
     if cases.len() < end {
         return cases.len();
     }
-    print::text(&cases[label..unit]);
-    print::text(b": ");
-    show(telemetry::read_line(cases[unit], cases[unit + 1] == 1, &cases[line..end]));
+    let read = telemetry::read_line(cases[unit], cases[unit + 1] == 1, &cases[line..end]);
+    print_case(&cases[label..unit], read);
     end
 }
 

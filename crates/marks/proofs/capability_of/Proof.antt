@@ -10,9 +10,6 @@ allowed-rate-requires c κs = search needs
 allowed-rate-requires-2 : tie.Need-allowed-rate-requires-2
 allowed-rate-requires-2 c κs = search needs
 
-cast-t5 : tie.Need-cast-t5
-cast-t5 c = search needs
-
 lesser-requires : tie.Need-lesser-requires
 lesser-requires c κs = search needs
 
@@ -23,4 +20,4 @@ returns c = cc
 pub capability-of-spec : {M : Type 1} → statement M
 capability-of-spec =
     tie.close
-    (tie.spec allowed-rate-requires allowed-rate-requires-2 cast-t5 lesser-requires returns)
+    (tie.spec allowed-rate-requires allowed-rate-requires-2 lesser-requires returns)

@@ -1,9 +1,48 @@
 -- `marks::unit_basis` meets its contract. Assumes nothing.
+use mathlib.Core.Path.{_≡_, _∙_}
 use borrow.Author.Needs.{needs}
+use mir.Syntax.{w32, w64}
+use mir.Val.{toZ, ofZ}
+use Rattle.telemetry.specs.Lines.{powerOf}
 use Rattle.signed.proofs.Sizes.{held32, held64}
-use Rattle.marks.specs.Assessments.{unitBasis}
+use Rattle.marks.specs.Triggers.{directionOf}
+use Rattle.marks.specs.Assessments.{kilowattsIn, upOf, downOf, unitBasis}
 use Rattle.marks.proofs.unit_basis.Statement.{statement}
 use Rattle.marks.proofs.unit_basis.Tie as tie
+
+abbrev start : tie.After-widened2 → tie.Start
+start c = c .before .before .before .before .before
+
+abbrev at-direction : tie.After-up-of → tie.After-direction-of
+at-direction c = c .before .before .before .before .before
+
+abbrev up-start : tie.After-up-of → tie.Start
+up-start c = start (at-direction c .before)
+
+power-is : (c : tie.After-widened) → toZ w64 (ofZ w64 (c .widened .result)) ≡ kilowattsIn (powerOf (c .before .before .before .args .f))
+power-is c = cc (held64 (c .widened .result) (c .widened .ok), held32 (c .before .power-in .result) (c .before .power-in .ok))
+
+target-is : (c : tie.After-widened2) → toZ w64 (ofZ w64 (c .widened2 .result)) ≡ start c .args .f .target
+target-is c =
+    held64 (c .widened2 .result) (c .widened2 .ok)
+    ∙ c .widened2 .ensures
+    ∙ held32 (start c .args .f .target) (search needs)
+
+direction-is : (c : tie.After-direction-of)
+    → c .direction-of .result ≡ directionOf (start (c .before) .args .f .target) (kilowattsIn (powerOf (start (c .before) .args .f)))
+direction-is c = rw (target-is (c .before), power-is (c .before .before .before)) at (c .direction-of .ensures)
+
+kept-is : (c : tie.After-up-of) → toZ w64 (ofZ w64 (c .before .widened3 .result)) ≡ up-start c .args .k .target
+kept-is c =
+    let kept : c .before .widened3 .result ≡ toZ w32 (ofZ w32 (up-start c .args .k .target)) = c .before .widened3 .ensures in
+    held64 (c .before .widened3 .result) (c .before .widened3 .ok) ∙ kept ∙ held32 (up-start c .args .k .target) (search needs)
+
+up-is : (c : tie.After-up-of) → toZ w64 (ofZ w64 (c .up-of .result)) ≡ upOf (up-start c .args .kind) (up-start c .args .k)
+up-is c = held64 (c .up-of .result) (c .up-of .ok) ∙ c .up-of .ensures
+
+down-is : (c : tie.After-down-of)
+    → toZ w64 (ofZ w64 (c .down-of .result)) ≡ downOf (up-start (c .before) .args .kind) (up-start (c .before) .args .k)
+down-is c = held64 (c .down-of .result) (c .down-of .ok) ∙ c .down-of .ensures
 
 power-requires : tie.Need-power-requires
 power-requires c κs = search needs
@@ -20,6 +59,9 @@ widened-requires-2 c κs = search needs
 direction-of-requires : tie.Need-direction-of-requires
 direction-of-requires c κs = search needs
 
+capability-of-requires : tie.Need-capability-of-requires
+capability-of-requires c κs = search needs
+
 widened-requires-3 : tie.Need-widened-requires-3
 widened-requires-3 c κs = search needs
 
@@ -29,11 +71,8 @@ up-of-requires c κs = search needs
 down-of-requires : tie.Need-down-of-requires
 down-of-requires c κs = search needs
 
-cast-t11 : tie.Need-cast-t11
-cast-t11 c = search needs
-
-capability-of-requires : tie.Need-capability-of-requires
-capability-of-requires c κs = search needs
+cast-t13 : tie.Need-cast-t13
+cast-t13 c = search needs
 
 rate-requires : tie.Need-rate-requires
 rate-requires c κs = search needs
@@ -43,16 +82,11 @@ is-doubtful-requires c κs = search needs
 
 returns : tie.Need-returns
 unfolding unitBasis
-returns c = cc (
-  held32 (c .before .before .before .before .before .before .before .before .before .before .before .before .before .before .args .f .target) (c .before .before .before .before .before .before .before .before .before .before .struct-told .given .1 .1 .0 .1),
-  held32 (c .before .before .before .before .before .before .before .before .before .before .before .before .before .before .args .k .target) (c .before .before .before .before .before .before .before .struct-told2 .given .1 .0 .1),
-  held32 (c .before .before .before .before .before .before .before .before .before .before .before .before .power-in .result) (c .before .before .before .before .before .before .before .before .before .before .before .before .power-in .ok),
-  held64 (c .before .before .before .before .before .before .before .before .before .before .before .widened .result) (c .before .before .before .before .before .before .before .before .before .before .before .widened .ok),
-  held64 (c .before .before .before .before .before .before .before .before .before .widened2 .result) (c .before .before .before .before .before .before .before .before .before .widened2 .ok),
-  held64 (c .before .before .before .before .before .before .widened3 .result) (c .before .before .before .before .before .before .widened3 .ok),
-  held64 (c .before .before .before .before .before .up-of .result) (c .before .before .before .before .before .up-of .ok),
-  held64 (c .before .before .before .before .down-of .result) (c .before .before .before .before .down-of .ok),
-)
+returns c =
+    let down = c .before .before .before in
+    let up = down .before in
+    let direction = at-direction up in
+    cc (power-is (direction .before .before .before), direction-is direction, kept-is up, up-is up, down-is down)
 
 pub unit-basis-spec : {M : Type 1} → statement M
 unit-basis-spec =
@@ -63,11 +97,11 @@ unit-basis-spec =
     widened-requires
     widened-requires-2
     direction-of-requires
+    capability-of-requires
     widened-requires-3
     up-of-requires
     down-of-requires
-    cast-t11
-    capability-of-requires
+    cast-t13
     rate-requires
     is-doubtful-requires
     returns)

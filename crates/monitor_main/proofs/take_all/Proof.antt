@@ -6,10 +6,10 @@ use Rattle.monitor_main.proofs.take_all.Statement.{statement}
 use Rattle.monitor_main.proofs.take_all.Tie as tie
 
 abbrev Inv-loop : tie.InvT-loop
-Inv-loop fd buffer₀ report₀ now₀ turns₀ buffer report now turns = (length buffer ≡ length buffer₀) × (length report ≡ length report₀)
+Inv-loop fd buffer₀ out₀ now₀ turns₀ buffer out now turns = length buffer ≡ length buffer₀
 
 abbrev μ-loop : tie.MeasureT-loop
-μ-loop fd buffer₀ report₀ now₀ turns₀ buffer report now turns = turns
+μ-loop fd buffer₀ out₀ now₀ turns₀ buffer out now turns = turns
 
 loop-holds : tie.Need-loop-holds Inv-loop μ-loop
 loop-holds c = search needs
@@ -29,17 +29,11 @@ loop-again c = search needs
 same-length : tie.Need-same-length Inv-loop μ-loop
 same-length c = search needs
 
-same-length-2 : tie.Need-same-length-2 Inv-loop μ-loop
-same-length-2 c = search needs
-
 returns : tie.Need-returns Inv-loop μ-loop
 returns c = search needs
 
-same-length-3 : tie.Need-same-length-3 Inv-loop μ-loop
-same-length-3 c = search needs
-
-same-length-4 : tie.Need-same-length-4 Inv-loop μ-loop
-same-length-4 c = search needs
+same-length-2 : tie.Need-same-length-2 Inv-loop μ-loop
+same-length-2 c = search needs
 
 returns-2 : tie.Need-returns-2 Inv-loop μ-loop
 returns-2 c = search needs
@@ -56,8 +50,6 @@ take-all-spec =
     loop-less
     loop-again
     same-length
-    same-length-2
     returns
-    same-length-3
-    same-length-4
+    same-length-2
     returns-2)

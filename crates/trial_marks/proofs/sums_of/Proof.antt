@@ -15,6 +15,13 @@ Inv-loop units given count sums₀ i₀ sums i = (i ≤ count) × SmallSums (200
 abbrev μ-loop : tie.MeasureT-loop
 μ-loop units given count sums₀ i₀ sums i = count - i
 
+abbrev start : tie.In-loop Inv-loop μ-loop → tie.Start Inv-loop μ-loop
+start c = c .before .before .before .before
+
+-- the members that are given come round again
+in-turn : (c : tie.In-loop Inv-loop μ-loop) → c .before .loop .i % start c .args .given < start c .args .given
+in-turn c = mod-lt (c .before .loop .i) (omega arith)
+
 none-requires : tie.Need-none-requires Inv-loop μ-loop
 none-requires c κs = search needs
 
@@ -25,16 +32,10 @@ rem-sight-at : tie.Need-rem-sight-at Inv-loop μ-loop
 rem-sight-at c = omega arith
 
 mul-sight-at : tie.Need-mul-sight-at Inv-loop μ-loop
-mul-sight-at c =
-    let s = c .before .before .before .before in
-    let h : c .before .loop .i % s .args .given < s .args .given = mod-lt (c .before .loop .i) (omega arith) in
-    omega (arith, h)
+mul-sight-at c = omega (arith, in-turn c)
 
 sight-at-requires : tie.Need-sight-at-requires Inv-loop μ-loop
-sight-at-requires c κs =
-    let s = c .before .before .before .before in
-    let h : c .before .loop .i % s .args .given < s .args .given = mod-lt (c .before .loop .i) (omega arith) in
-    omega (arith, h)
+sight-at-requires c κs = omega (arith, in-turn c)
 
 plus-requires : tie.Need-plus-requires Inv-loop μ-loop
 plus-requires c κs = (wider (omega arith) (c .before .before .loop .inv .1), c .sight-at .ensures)

@@ -5,12 +5,21 @@ use mathlib.Core.Path.{_≡_, refl, sym, _∙_}
 use Prim.Native.Nat.{_-_, _≤_}
 use Rattle.monitor.specs.Plants.{place}
 use Rattle.monitor.proofs.Operated.{located, refused-call, located-call}
+use Rattle.monitor.proofs.Refusals.{operator-answered}
 use Rattle.monitor.specs.Operators.{reinstate}
 use Rattle.monitor.proofs.operators.reinstate.Statement.{statement}
 use Rattle.monitor.proofs.operators.reinstate.Tie as tie
 
-found : (c : tie.After-enum-told) → (1 ≤ (c .before .before .before) .args .point) × (c .before .before .before .args .point ≤ 80) × (place (c .before .before .before .args .point) ≡ (c .before .before .before) .args .point - 1)
-found c = located (c .before .before .before .args .m) (c .before .before .before .args .point) (sym (c .before .before .locate .ensures) ∙ c .enum-told .given .1)
+-- the call's arguments, and what locate gave, where it accepts
+abbrev start : tie.After-enum-told → tie.Start
+start c = c .before .before .before
+
+abbrev past : tie.After-enum-told → tie.After-locate
+past c = c .before .before
+
+found : (c : tie.After-enum-told)
+    → (1 ≤ start c .args .point) × (start c .args .point ≤ 80) × (place (start c .args .point) ≡ start c .args .point - 1)
+found c = located (start c .args .m) (start c .args .point) (sym (past c .locate .ensures) ∙ c .enum-told .given .1)
 
 locate-requires : tie.Need-locate-requires
 locate-requires c κs = search needs
@@ -31,10 +40,19 @@ enum-told-2 : tie.Need-enum-told-2
 enum-told-2 c = search needs
 
 returns : tie.Need-returns
-returns c = c .reinstate-at .ensures ∙ located-call (c .before .before .before .before .args .m) (c .before .before .before .before .args .point) (c .before .before .before .locate .result) (c .before .before .before .locate .ensures) reinstate (c .before .before .before .before .args .point - 1) (c .before .enum-told .given .1) refl
+returns c =
+    let s = start (c .before) .args in
+    let l = past (c .before) .locate in
+    operator-answered (s .m) (s .point) reinstate _
+    (c .reinstate-at .ensures
+    ∙ located-call (s .m) (s .point) (l .result) (l .ensures) reinstate (s .point - 1) (c .before .enum-told .given .1) refl)
 
 returns-2 : tie.Need-returns-2
-returns-2 c = refused-call (c .before .before .before .args .m) (c .before .before .before .args .point) (c .before .before .locate .result) (c .before .before .locate .ensures) reinstate _ (c .enum-told2 .given .1)
+returns-2 c =
+    let l = c .before .before in
+    let s = l .before .args in
+    operator-answered (s .m) (s .point) reinstate _
+    (refused-call (s .m) (s .point) (l .locate .result) (l .locate .ensures) reinstate _ (c .enum-told2 .given .1))
 
 pub reinstate-spec : {M : Type 1} → statement M
 reinstate-spec =

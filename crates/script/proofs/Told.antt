@@ -1,0 +1,42 @@
+-- What is printed for a call, and for a list of calls, is the text of the outcomes of demand 3. Assumes nothing.
+use mathlib.Core.Path.{_≡_, refl, ap₂}
+use mathlib.Core.List.{List, [], _∷_, _++_}
+use Prim.Native.Nat.{ℕ}
+use lib.ListN.{length}
+use Rattle.trace.specs.Lists.{sights}
+use Rattle.monitor.specs.Intervals.{decide, verdictNumber, intervalOf, reportOf}
+use Rattle.monitor.specs.Operators.{declare, reinstate, look, operatedOf, lookedOf}
+use Rattle.monitor.specs.Calls.{Call, interval, operate, Outcome, refusal, reported, done, reply, next, answer, run}
+use Rattle.monitor.specs.declared.Monitor.{Monitor}
+use Rattle.monitor.specs.declared.Verdict.{Verdict}
+use Rattle.monitor.specs.declared.Verdict.the-variants.{Accept, Refuse}
+use Rattle.monitor.proofs.Refusals.{interval-told, operator-told}
+use Rattle.text.specs.Numbers.{ascii}
+use Rattle.text.specs.Lines.{numberedOf}
+use Rattle.program.proofs.Turns.{refused-number}
+use Rattle.script.specs.Texts.{answeredBy, intervalText, declareText, reinstateText, lookText, callText}
+use Rattle.script.specs.Outcomes.{outcomeText, texts}
+
+-- what goes by a verdict's number goes by the verdict, where these words stand in front of the number of a refusal of the call
+told-by : {v : Verdict} (c : Call) (accepted : Outcome) (refused : List ℕ) → ((k : ℕ) → outcomeText c (refusal k) ≡ numberedOf refused k)
+    → (verdictNumber v ≡ 0 → v ≡ Accept) → answeredBy (verdictNumber v) (outcomeText c accepted) refused ≡ outcomeText c (decide v refusal accepted)
+unfolding verdictNumber
+told-by {v = Accept} c accepted refused words told = refl
+told-by {v = Refuse k} c accepted refused words told = rw (refused-number k told, words k)
+
+-- what is printed for a call is the text of its outcome
+pub call-told : (m : Monitor) (c : Call) → callText m c ≡ outcomeText c (answer m c)
+unfolding intervalText declareText reinstateText lookText intervalOf operatedOf lookedOf
+call-told m (interval buffer report) =
+    let accepted = reported (reportOf m buffer report) in
+    told-by (interval buffer report) accepted (ascii "interval refused") (λ k. refl) (interval-told m buffer (length report))
+call-told m (operate (declare level) p) =
+    told-by (operate (declare level) p) done (ascii "declare refused") (λ k. refl) (operator-told m p (declare level))
+call-told m (operate reinstate p) = told-by (operate reinstate p) done (ascii "reinstate refused") (λ k. refl) (operator-told m p reinstate)
+call-told m (operate look p) =
+    told-by (operate look p) (reply look (lookedOf m p .point)) (ascii "look refused") (λ k. refl) (operator-told m p look)
+
+-- what is printed for a list of calls is the texts of its outcomes, one after the other
+pub outcomes-told : (m : Monitor) (calls : List Call) → texts m calls ≡ sights outcomeText calls (run m calls)
+outcomes-told m [] = refl
+outcomes-told m (c ∷ calls) = ap₂ (_++_ {A = ℕ}) (call-told m c) (outcomes-told (next m c) calls)

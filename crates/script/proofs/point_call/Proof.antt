@@ -1,0 +1,32 @@
+-- `script::point_call` meets its contract. Assumes nothing.
+use borrow.Author.Needs.{needs}
+use Rattle.script.proofs.Readings.{point-reinstate, point-look, point-unread}
+use Rattle.script.proofs.point_call.Statement.{statement}
+use Rattle.script.proofs.point_call.Tie as tie
+
+reinstate-requires : tie.Need-reinstate-requires
+reinstate-requires c κs = search needs
+
+returns : tie.Need-returns
+returns c = rw (point-reinstate _ _ (c .before .before .if1 .taken)) (c .reinstate .ensures)
+
+look-requires : tie.Need-look-requires
+look-requires c κs = search needs
+
+returns-2 : tie.Need-returns-2
+returns-2 c =
+    let t = c .before .before in
+    rw (point-look _ _ (t .before .if1 .left) (t .if2 .taken)) (c .look .ensures)
+
+unreadable-requires : tie.Need-unreadable-requires
+unreadable-requires c κs = search needs
+
+returns-3 : tie.Need-returns-3
+returns-3 c =
+    let t = c .before .before in
+    rw (point-unread _ _ (t .before .if1 .left) (t .if2 .left)) (c .unreadable .ensures)
+
+pub point-call-spec : {M : Type 1} → statement M
+point-call-spec =
+    tie.close
+    (tie.spec reinstate-requires returns look-requires returns-2 unreadable-requires returns-3)

@@ -1,0 +1,58 @@
+-- What is printed for each call: its name, `accepted` and what it answers, or `refused` and the number in 01.
+use mathlib.Core.Bool.{cond}
+use mathlib.Core.List.{List, [], _∷_, _++_}
+use Prim.Native.Nat.{ℕ}
+use lib.Dec.{eqb}
+use lib.ListN.{length}
+use Rattle.register.specs.Registers.{answerNumber, answerVisits}
+use Rattle.register.specs.declared.Answer.{Answer}
+use Rattle.points.specs.declared.Point.{Point}
+use Rattle.monitor.specs.Assessments.{headerOf, numberOf}
+use Rattle.monitor.specs.Intervals.{verdictNumber, intervalOf, reportOf}
+use Rattle.monitor.specs.Operators.{Operator, declare, reinstate, look, operatedOf, lookedOf}
+use Rattle.monitor.specs.Calls.{Call, interval, operate}
+use Rattle.monitor.specs.declared.Monitor.{Monitor}
+use Rattle.text.specs.Numbers.{ascii}
+use Rattle.text.specs.Lines.{line, linesOf, numberedOf, standingOf}
+
+-- by the number in 01, which is 0 where the call is accepted
+abbrev pub answeredBy : ℕ → List ℕ → List ℕ → List ℕ
+answeredBy number accepted refused = cond (eqb number 0) accepted (numberedOf refused number)
+
+-- `load accepted VISITS`
+unfoldable pub loadText : Answer → List ℕ
+loadText a = answeredBy (answerNumber a) (numberedOf (ascii "load accepted") (answerVisits a)) (ascii "load refused")
+
+-- `interval accepted`, and the lines as the program of 01 prints them
+abbrev pub acceptedText : ℕ → List ℕ → List ℕ
+acceptedText intervalNumber report = line (ascii "interval accepted" ∷ []) ++ linesOf intervalNumber report
+
+unfoldable pub intervalText : ℕ → ℕ → List ℕ → List ℕ
+intervalText number intervalNumber report =
+    answeredBy number (acceptedText intervalNumber report) (ascii "interval refused")
+
+unfoldable pub declareText : ℕ → List ℕ
+declareText number = answeredBy number (line (ascii "declare accepted" ∷ [])) (ascii "declare refused")
+
+unfoldable pub reinstateText : ℕ → List ℕ
+reinstateText number = answeredBy number (line (ascii "reinstate accepted" ∷ [])) (ascii "reinstate refused")
+
+-- `look accepted STATUS SMALL LARGE LEVEL`
+unfoldable pub lookText : ℕ → Point → List ℕ
+lookText number q =
+    answeredBy number (standingOf (ascii "look accepted") (q .status) (q .small) (q .large) (q .level)) (ascii "look refused")
+
+abbrev pub operatorText : Operator → Monitor → ℕ → List ℕ
+operatorText (declare level) m p = declareText (verdictNumber (operatedOf (declare level) m p .verdict))
+operatorText reinstate m p = reinstateText (verdictNumber (operatedOf reinstate m p .verdict))
+operatorText look m p = lookText (verdictNumber (lookedOf m p .verdict)) (lookedOf m p .point)
+
+-- the text of a call made in a state
+abbrev pub callText : Monitor → Call → List ℕ
+callText m (interval buffer report) =
+    intervalText (verdictNumber (intervalOf m buffer (length report) .verdict)) (numberOf (headerOf buffer)) (reportOf m buffer report)
+callText m (operate op p) = operatorText op m p
+
+-- a call that cannot be read, at this byte of the file
+abbrev pub errorText : ℕ → List ℕ
+errorText at = numberedOf (ascii "script error at byte") at

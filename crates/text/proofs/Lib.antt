@@ -1,0 +1,5 @@
+-- What belongs to no one function.
+pub mod Puts
+pub mod Numbers
+pub mod Lines
+pub mod Rooms

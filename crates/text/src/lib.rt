@@ -1,0 +1,99 @@
+// Text in ASCII, put into a buffer that the caller lends, from a place on. Each function returns the next place. None asks anything of
+// its caller: where fewer bytes are left than the longest text of its kind takes, the buffer keeps its bytes and the place stays.
+mod pieces;
+
+ghost use mathlib.Core.Path.{_≡_};
+ghost use Prim.Native.Nat.{_+_, _*_};
+ghost use lib.Dec.{leb};
+ghost use lib.ListN.{length};
+ghost use Rattle.text.specs.Numbers.{decimalOf, wholeOf};
+ghost use Rattle.text.specs.Lines.{linesOf, numberedOf, standingOf};
+ghost use Rattle.text.specs.Puts.{PutWithin, longestNumber, longestWhole, longestNumbered, longestStanding, longestLine, longestLines};
+
+// Whether `room` bytes are left from `at` on.
+fn has_room(length: usize, at: usize, room: usize) -> bool
+    ensures { λ r. ⌜ r ≡ leb (at + room) length ⌝ }
+{
+    if at <= length {
+        return room <= length - at;
+    }
+    false
+}
+
+// Whether that many of the longest lines fit from `at` on.
+fn has_lines(length: usize, at: usize, lines: usize) -> bool
+    ensures { λ r. ⌜ r ≡ leb (at + longestLine * lines) length ⌝ }
+{
+    if at <= length {
+        return lines <= (length - at) / 83;
+    }
+    false
+}
+
+pub fn put_bytes(out: &mut [u8], at: usize, bytes: &[u8]) -> usize
+    ensures { λ r. ⌜ PutWithin (length (now (bytes .entry))) (now (out .entry)) at (now (bytes .entry)) r (now (out .exit)) ⌝ }
+{
+    if has_room(out.len(), at, bytes.len()) {
+        return pieces::put_bytes(out, at, bytes);
+    }
+    at
+}
+
+// A number in decimal.
+pub fn put_number(out: &mut [u8], at: usize, n: u64) -> usize
+    ensures { λ r. ⌜ PutWithin longestNumber (now (out .entry)) at (decimalOf n) r (now (out .exit)) ⌝ }
+{
+    if has_room(out.len(), at, 20) {
+        return pieces::put_number(out, at, n);
+    }
+    at
+}
+
+// A signed number in decimal.
+pub fn put_whole(out: &mut [u8], at: usize, z: i32) -> usize
+    ensures { λ r. ⌜ PutWithin longestWhole (now (out .entry)) at (wholeOf z) r (now (out .exit)) ⌝ }
+{
+    if has_room(out.len(), at, 11) {
+        return pieces::put_whole(out, at, z);
+    }
+    at
+}
+
+// A line of words and a number.
+pub fn put_numbered(out: &mut [u8], at: usize, words: &[u8], n: u64) -> usize
+    ensures { λ r. ⌜ PutWithin (longestNumbered (now (words .entry))) (now (out .entry)) at (numberedOf (now (words .entry)) n) r (now (out .exit)) ⌝ }
+{
+    if has_room(out.len(), at, words.len() + 22) {
+        return pieces::put_numbered(out, at, words, n);
+    }
+    at
+}
+
+// A line of words, and a point's status, runs and level.
+pub fn put_standing(
+    out: &mut [u8],
+    at: usize,
+    words: &[u8],
+    status: u8,
+    small: u8,
+    large: u8,
+    level: i32,
+) -> usize
+    ensures { λ r. ⌜ PutWithin (longestStanding (now (words .entry)))
+        (now (out .entry)) at (standingOf (now (words .entry)) status small large level) r (now (out .exit)) ⌝ }
+{
+    if has_room(out.len(), at, words.len() + 25) {
+        return pieces::put_standing(out, at, words, status, small, large, level);
+    }
+    at
+}
+
+// The lines of a report.
+pub fn put_report(out: &mut [u8], at: usize, interval: u32, report: &[u8]) -> usize
+    ensures { λ r. ⌜ PutWithin (longestLines (now (report .entry))) (now (out .entry)) at (linesOf interval (now (report .entry))) r (now (out .exit)) ⌝ }
+{
+    if has_lines(out.len(), at, report.len() / 16) {
+        return pieces::put_lines(out, at, interval, report);
+    }
+    at
+}
