@@ -10,6 +10,18 @@ ghost use Rattle.text.specs.Numbers.{decimalOf, wholeOf};
 ghost use Rattle.text.specs.Lines.{linesOf, numberedOf, standingOf};
 ghost use Rattle.text.specs.Puts.{PutWithin, longestNumber, longestWhole, longestNumbered, longestStanding, longestLine, longestLines};
 
+// The longest number (u64), signed number (i32), and line of a point.
+const LONGEST_NUMBER: usize = 20;
+
+const LONGEST_WHOLE: usize = 11;
+
+const LONGEST_LINE: usize = 83;
+
+// The most that stands behind the words of a line: a space, a number and the end; or four spaces, a point's values and the end.
+const BEHIND_NUMBERED: usize = 22;
+
+const BEHIND_STANDING: usize = 25;
+
 // Whether `room` bytes are left from `at` on.
 fn has_room(length: usize, at: usize, room: usize) -> bool
     ensures { λ r. ⌜ r ≡ leb (at + room) length ⌝ }
@@ -25,7 +37,7 @@ fn has_lines(length: usize, at: usize, lines: usize) -> bool
     ensures { λ r. ⌜ r ≡ leb (at + longestLine * lines) length ⌝ }
 {
     if at <= length {
-        return lines <= (length - at) / 83;
+        return lines <= (length - at) / LONGEST_LINE;
     }
     false
 }
@@ -43,7 +55,7 @@ pub fn put_bytes(out: &mut [u8], at: usize, bytes: &[u8]) -> usize
 pub fn put_number(out: &mut [u8], at: usize, n: u64) -> usize
     ensures { λ r. ⌜ PutWithin longestNumber (now (out .entry)) at (decimalOf n) r (now (out .exit)) ⌝ }
 {
-    if has_room(out.len(), at, 20) {
+    if has_room(out.len(), at, LONGEST_NUMBER) {
         return pieces::put_number(out, at, n);
     }
     at
@@ -53,7 +65,7 @@ pub fn put_number(out: &mut [u8], at: usize, n: u64) -> usize
 pub fn put_whole(out: &mut [u8], at: usize, z: i32) -> usize
     ensures { λ r. ⌜ PutWithin longestWhole (now (out .entry)) at (wholeOf z) r (now (out .exit)) ⌝ }
 {
-    if has_room(out.len(), at, 11) {
+    if has_room(out.len(), at, LONGEST_WHOLE) {
         return pieces::put_whole(out, at, z);
     }
     at
@@ -63,7 +75,7 @@ pub fn put_whole(out: &mut [u8], at: usize, z: i32) -> usize
 pub fn put_numbered(out: &mut [u8], at: usize, words: &[u8], n: u64) -> usize
     ensures { λ r. ⌜ PutWithin (longestNumbered (now (words .entry))) (now (out .entry)) at (numberedOf (now (words .entry)) n) r (now (out .exit)) ⌝ }
 {
-    if has_room(out.len(), at, words.len() + 22) {
+    if has_room(out.len(), at, words.len() + BEHIND_NUMBERED) {
         return pieces::put_numbered(out, at, words, n);
     }
     at
@@ -82,7 +94,7 @@ pub fn put_standing(
     ensures { λ r. ⌜ PutWithin (longestStanding (now (words .entry)))
         (now (out .entry)) at (standingOf (now (words .entry)) status small large level) r (now (out .exit)) ⌝ }
 {
-    if has_room(out.len(), at, words.len() + 25) {
+    if has_room(out.len(), at, words.len() + BEHIND_STANDING) {
         return pieces::put_standing(out, at, words, status, small, large, level);
     }
     at
