@@ -2,7 +2,6 @@
 //
 // What it prints of what it read is proved (crate `program`). Reading, writing and going on are left: no contract can say what a
 // file holds. A file that cannot be opened, or not read, counts as empty.
-ghost use mathlib.Core.Path.{_≡_};
 ghost use lib.ListN.{length};
 ghost use Rattle.io.specs.Counts.{Counts};
 use monitor::Monitor;

@@ -1,15 +1,13 @@
 -- What a step comes to, by the number of its answer, and why the report buffer's old bytes do not matter. Assumes nothing.
-use mathlib.Core.Path.{_≡_, refl, sym, ap, _∙_}
+use mathlib.Core.Path.{_≡_, refl, sym, _∙_}
 use mathlib.Core.Bool.{Bool, true, false, cond}
-use mathlib.Core.List.{List, [], _∷_, _++_}
-use Prim.Native.Nat.{ℕ, zero, suc, _+_, _*_, _≤_, _<_, min}
+use mathlib.Core.List.{List, [], _∷_}
+use Prim.Native.Nat.{ℕ, _*_}
 use native.Mathlib.Nat.{zero-add}
 use native.Mathlib.Omega.{arith}
 use borrow.Author.Tests.{eq-eqb, ne-eqb}
 use lib.Dec.{eqb}
-use lib.ListN.{length, take, drop, replicate, length-append, length-replicate}
-use lib.Seq.{take-at}
-use Rattle.io.specs.Counts.{Counts}
+use lib.ListN.{length, length-replicate}
 use Rattle.wire.specs.Fields.{putAt}
 use Rattle.register.specs.Registers.{answerNumber}
 use Rattle.monitor.specs.Plants.{total}
@@ -27,52 +25,40 @@ use Rattle.text.specs.Lines.{linesOf, refusedOf}
 use Rattle.text.specs.Puts.{Put}
 use Rattle.text.proofs.Puts.{nothing}
 use Rattle.program.specs.Steps.{Outcome, answered, startOf, blank, roomOf, takenFrom, stepOf, Steps}
-use Rattle.program.specs.declared.Turn.{Turn}
 
 -- ---- text at the front of a buffer
 
-abbrev pub Turned : Outcome → Turn → List ℕ → List ℕ → Type 0
-Turned o r before after = Steps o r before after × Counts (r .length) after
-
-module _ {before : List ℕ} {next : ℕ} {after : List ℕ} (text : List ℕ) (put : Put before 0 text next after) where
-  front : after ≡ text ++ drop (length text) before
-  unfolding putAt
-  front = rw (zero-add (length text)) at (put .bytes)
-
-  size : next ≡ length text
-  size = omega (arith, put .place)
-
-  counted : Counts next after
-  counted =
-      rw (size, front) (rw length-append (omega arith), sym (ap length (take-at text (drop (length text) before) (length text) refl)))
-
 pub turned : {before : List ℕ} {next : ℕ} {after : List ℕ} (o : Outcome) (m : Monitor) (more : Bool) → m ≡ o .monitor → more ≡ o .more
-    → Put before 0 (o .text) next after → Turned o (record { monitor = m; more = more; length = next }) before after
-turned o m more e f put = (
-  record { monitor = e; more = f; size = size (o .text) put; bytes = front (o .text) put },
-  counted (o .text) put,
-)
+    → Put before 0 (o .text) next after → Steps o (record { monitor = m; more = more; length = next }) before after
+unfolding putAt
+turned o m more e f put =
+    record {
+      monitor = e;
+      more = f;
+      size = omega (arith, put .place);
+      bytes = rw (zero-add (length (o .text))) at (put .bytes);
+    }
 
 -- ---- by the number of the answer
 
 module _ {before : List ℕ} {next : ℕ} {after : List ℕ} (m : Monitor) (number : ℕ) (accepted : List ℕ) where
   pub turned-accepted : number ≡ 0 → Put before 0 accepted next after
-      → Turned (answered m number accepted) (record { monitor = m; more = true; length = next }) before after
+      → Steps (answered m number accepted) (record { monitor = m; more = true; length = next }) before after
   turned-accepted e put = turned (answered m number accepted) m true refl (sym (eq-eqb number 0 e)) (rw (eq-eqb number 0 e) put)
 
   pub turned-refused : (number ≡ 0 → ⊥) → Put before 0 (refusedOf number) next after
-      → Turned (answered m number accepted) (record { monitor = m; more = false; length = next }) before after
+      → Steps (answered m number accepted) (record { monitor = m; more = false; length = next }) before after
   turned-refused e put = turned (answered m number accepted) m false refl (sym (ne-eqb number 0 e)) (rw (ne-eqb number 0 e) put)
 
 -- ---- the register
 
 module _ (bytes : List ℕ) (loaded : Loaded) (is : loaded ≡ loadOf unloaded bytes) (number : ℕ) (told : number ≡ answerNumber (loaded .answer)) where
-  pub start-accepted : (out : List ℕ) → number ≡ 0 → Turned (startOf bytes) (record { monitor = loaded .monitor; more = true; length = 0 }) out out
+  pub start-accepted : (out : List ℕ) → number ≡ 0 → Steps (startOf bytes) (record { monitor = loaded .monitor; more = true; length = 0 }) out out
   unfolding startOf
   start-accepted out e = rw (sym is, sym told) (turned-accepted (loaded .monitor) number [] e (nothing out 0))
 
   pub start-refused : (out after : List ℕ) (next : ℕ) → (number ≡ 0 → ⊥) → Put out 0 (refusedOf number) next after
-      → Turned (startOf bytes) (record { monitor = loaded .monitor; more = false; length = next }) out after
+      → Steps (startOf bytes) (record { monitor = loaded .monitor; more = false; length = next }) out after
   unfolding startOf
   start-refused out after next e put = rw (sym is, sym told) (turned-refused (loaded .monitor) number [] e put)
 
@@ -116,14 +102,14 @@ module _ (m : Monitor) (buffer report : List ℕ) (stepped : Stepped) (is : step
   module _ (number : ℕ) (told : number ≡ verdictNumber (stepped .verdict)) (out after : List ℕ) (next : ℕ) where
     pub taken-accepted : (left : List ℕ) → left ≡ reportOf m buffer report → number ≡ 0
         → Put out 0 (linesOf (stepped .monitor .last) left) next after
-        → Turned (takenFrom m buffer report) (record { monitor = stepped .monitor; more = true; length = next }) out after
+        → Steps (takenFrom m buffer report) (record { monitor = stepped .monitor; more = true; length = next }) out after
     unfolding takenFrom
     taken-accepted left bytes e put =
         let last : stepped .monitor .last ≡ numberOf (headerOf buffer) = rw is (accepted-last m buffer (length report) (rw is at (sym told ∙ e))) in
         rw (sym is, sym told, sym bytes, sym last) (turned-accepted (stepped .monitor) number _ e put)
 
     pub taken-refused : (number ≡ 0 → ⊥) → Put out 0 (refusedOf number) next after
-        → Turned (takenFrom m buffer report) (record { monitor = stepped .monitor; more = false; length = next }) out after
+        → Steps (takenFrom m buffer report) (record { monitor = stepped .monitor; more = false; length = next }) out after
     unfolding takenFrom
     taken-refused e put = rw (sym is, sym told) (turned-refused (stepped .monitor) number _ e put)
 
@@ -134,7 +120,7 @@ room-is : (m : Monitor) → soundOf m ≡ true → roomOf m ≡ 16 * total (m .p
 room-is m sound = omega (arith, units-small m sound, aggregates-small m sound)
 
 pub stepped-end : (m : Monitor) (buffer out : List ℕ) → length buffer ≡ 0
-    → Turned (stepOf m buffer) (record { monitor = m; more = false; length = 0 }) out out
+    → Steps (stepOf m buffer) (record { monitor = m; more = false; length = 0 }) out out
 unfolding stepOf
 stepped-end m [] out e = turned (stepOf m []) m false refl refl (nothing out 0)
 stepped-end m (byte ∷ bytes) out e = absurd (omega arith)

@@ -2,7 +2,6 @@
 ghost use mathlib.Core.Path.{_≡_};
 ghost use Prim.Native.Nat.{min};
 ghost use lib.ListN.{length};
-ghost use Rattle.io.specs.Counts.{Counts};
 ghost use Rattle.program.specs.Steps.{roomOf, sizeOf, startOf, stepOf, takenFrom, Steps};
 use monitor::Monitor;
 
@@ -44,8 +43,7 @@ fn report_size(m: Monitor) -> usize
 
 // The register: one that is refused is all that is printed.
 pub fn start(register: &[u8], out: &mut [u8; 8192]) -> Turn
-    ensures step { λ r. ⌜ Steps (startOf (now (register .entry))) r (now (out .entry)) (now (out .exit)) ⌝ }
-    ensures counts { λ r. ⌜ Counts (r .length) (now (out .exit)) ⌝ }
+    ensures { λ r. ⌜ Steps (startOf (now (register .entry))) r (now (out .entry)) (now (out .exit)) ⌝ }
 {
     let loaded = monitor::load(monitor::new_monitor(), register);
     let answer = loaded.answer;
@@ -68,8 +66,7 @@ pub fn start(register: &[u8], out: &mut [u8; 8192]) -> Turn
 // An interval whose report has its place.
 fn take(m: Monitor, buffer: &[u8], report: &mut [u8], out: &mut [u8; 8192]) -> Turn
     requires { ⌜ length (now report) ≡ roomOf m ⌝ }
-    ensures step { λ r. ⌜ Steps (takenFrom m (now (buffer .entry)) (now (report .entry))) r (now (out .entry)) (now (out .exit)) ⌝ }
-    ensures counts { λ r. ⌜ Counts (r .length) (now (out .exit)) ⌝ }
+    ensures { λ r. ⌜ Steps (takenFrom m (now (buffer .entry)) (now (report .entry))) r (now (out .entry)) (now (out .exit)) ⌝ }
 {
     let stepped = monitor::interval(m, buffer, report);
     let verdict = stepped.verdict;
@@ -98,8 +95,7 @@ fn longest_report() -> [u8; 1280]
 
 // The bytes that were read for an interval: none at the end of the file, and a last buffer that is short is passed on as it is.
 pub fn step(m: Monitor, buffer: &[u8], out: &mut [u8; 8192]) -> Turn
-    ensures step { λ r. ⌜ Steps (stepOf m (now (buffer .entry))) r (now (out .entry)) (now (out .exit)) ⌝ }
-    ensures counts { λ r. ⌜ Counts (r .length) (now (out .exit)) ⌝ }
+    ensures { λ r. ⌜ Steps (stepOf m (now (buffer .entry))) r (now (out .entry)) (now (out .exit)) ⌝ }
 {
     if buffer.len() == 0 {
         return Turn {

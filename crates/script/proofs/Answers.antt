@@ -24,8 +24,8 @@ use Rattle.monitor.proofs.Verdicts.{ready, report-size}
 use Rattle.text.specs.Numbers.{ascii}
 use Rattle.text.specs.Lines.{line, numberedOf, standingOf}
 use Rattle.text.specs.Puts.{Put}
-use Rattle.program.specs.Steps.{Outcome}
-use Rattle.program.proofs.Turns.{Turned, turned, refused-number, accepted-last}
+use Rattle.program.specs.Steps.{Outcome, Steps}
+use Rattle.program.proofs.Turns.{turned, refused-number, accepted-last}
 use Rattle.script.specs.Texts.{answeredBy, loadText, acceptedText, intervalText, declareText, reinstateText, lookText, operatorText, callText}
 use Rattle.script.specs.Steps.{madeLoad, madeCall}
 
@@ -59,7 +59,7 @@ module _ (m : Monitor) (buffer report : List ℕ) (r : Stepped) (is : r ≡ inte
 
 module _ (m : Monitor) (out after : List ℕ) (size : ℕ) where
   abbrev Made : Outcome → Monitor → Type 0
-  Made o n = Turned o (record { monitor = n; more = true; length = size }) out after
+  Made o n = Steps o (record { monitor = n; more = true; length = size }) out after
 
   -- ---- load
 

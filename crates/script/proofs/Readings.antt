@@ -1,5 +1,5 @@
 -- What the bytes of a call say, by the tests that the code makes. Assumes nothing.
-use mathlib.Core.Path.{_≡_, refl, sym, ap, _∙_}
+use mathlib.Core.Path.{_≡_, refl}
 use mathlib.Core.Bool.{Bool, true, false, _&&_}
 use mathlib.Core.List.{List, [], _∷_}
 use Prim.Native.Nat.{ℕ, _+_, _-_, _≤_, _<_}
@@ -13,8 +13,9 @@ use Rattle.monitor.specs.Operators.{declare, reinstate, look}
 use Rattle.monitor.specs.Calls.{interval, operate}
 use Rattle.monitor.specs.declared.Monitor.{Monitor}
 use Rattle.text.proofs.Puts.{nothing}
-use Rattle.program.proofs.Turns.{Turned, turned}
-use Rattle.script.specs.Items.{Item, unreadable, loads, calls, intervalItem, declareItem, pointItem, operatorItem, payloadItem}
+use Rattle.program.specs.Steps.{Steps}
+use Rattle.program.proofs.Turns.{turned}
+use Rattle.script.specs.Items.{unreadable, loads, calls, intervalItem, declareItem, pointItem, operatorItem, payloadItem}
 use Rattle.script.specs.Items.{wantedBy, isWhole, itemOf}
 use Rattle.script.specs.Steps.{madeBy, stepOf}
 
@@ -134,7 +135,7 @@ step-item m at [] e = absurd (e refl)
 step-item m at (byte ∷ bytes) e = refl
 
 pub step-end : (m : Monitor) (at : ℕ) (bytes out : List ℕ) → length bytes ≡ 0
-    → Turned (stepOf m at bytes) (record { monitor = m; more = false; length = 0 }) out out
+    → Steps (stepOf m at bytes) (record { monitor = m; more = false; length = 0 }) out out
 unfolding stepOf
 step-end m at [] out e = turned (stepOf m at []) m false refl refl (nothing out 0)
 step-end m at (byte ∷ bytes) out e = absurd (omega arith)

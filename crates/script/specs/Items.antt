@@ -10,7 +10,7 @@ use Prim.Native.Nat.{ℕ, _+_}
 use lib.Dec.{leb, eqb}
 use lib.ListN.{length, drop, replicate}
 use Rattle.wire.specs.Fields.{wordAt, wholeAt}
-use Rattle.monitor.specs.Operators.{Operator, declare, reinstate, look}
+use Rattle.monitor.specs.Operators.{declare, reinstate, look}
 use Rattle.monitor.specs.Calls.{Call, interval, operate}
 
 -- a load, a call of demand 3's lists, or bytes that are neither

@@ -1,8 +1,6 @@
 // The calls: each is made in a state, and its answer put into a buffer.
-ghost use mathlib.Core.Path.{_≡_};
 ghost use Prim.Native.Nat.{_+_, _≤_};
 ghost use lib.ListN.{length};
-ghost use Rattle.io.specs.Counts.{Counts};
 ghost use Rattle.monitor.specs.Operators.{declare, reinstate, look};
 ghost use Rattle.monitor.specs.Calls.{interval, operate};
 ghost use Rattle.text.specs.Puts.{Put};
@@ -24,8 +22,7 @@ fn put_answer(out: &mut [u8], number: u32, accepted: &[u8], refused: &[u8]) -> u
 }
 
 pub(crate) fn load(m: Monitor, register: &[u8], out: &mut [u8; 8192]) -> Turn
-    ensures step { λ r. ⌜ Steps (madeLoad m (now (register .entry))) r (now (out .entry)) (now (out .exit)) ⌝ }
-    ensures counts { λ r. ⌜ Counts (r .length) (now (out .exit)) ⌝ }
+    ensures { λ r. ⌜ Steps (madeLoad m (now (register .entry))) r (now (out .entry)) (now (out .exit)) ⌝ }
 {
     let loaded = monitor::load(m, register);
     let answer = loaded.answer;
@@ -55,8 +52,7 @@ fn put_accepted(out: &mut [u8], interval: u32, report: &[u8]) -> usize
 }
 
 pub(crate) fn interval(m: Monitor, buffer: &[u8], report: &mut [u8], out: &mut [u8; 8192]) -> Turn
-    ensures step { λ r. ⌜ Steps (madeCall m (interval (now (buffer .entry)) (now (report .entry)))) r (now (out .entry)) (now (out .exit)) ⌝ }
-    ensures counts { λ r. ⌜ Counts (r .length) (now (out .exit)) ⌝ }
+    ensures { λ r. ⌜ Steps (madeCall m (interval (now (buffer .entry)) (now (report .entry)))) r (now (out .entry)) (now (out .exit)) ⌝ }
 {
     let stepped = monitor::interval(m, buffer, report);
     let verdict = stepped.verdict;
@@ -77,8 +73,7 @@ pub(crate) fn interval(m: Monitor, buffer: &[u8], report: &mut [u8], out: &mut [
 }
 
 pub(crate) fn declare(m: Monitor, point: u32, level: i32, out: &mut [u8; 8192]) -> Turn
-    ensures step { λ r. ⌜ Steps (madeCall m (operate (declare level) point)) r (now (out .entry)) (now (out .exit)) ⌝ }
-    ensures counts { λ r. ⌜ Counts (r .length) (now (out .exit)) ⌝ }
+    ensures { λ r. ⌜ Steps (madeCall m (operate (declare level) point)) r (now (out .entry)) (now (out .exit)) ⌝ }
 {
     let stepped = monitor::declare(m, point, level);
     let verdict = stepped.verdict;
@@ -96,8 +91,7 @@ pub(crate) fn declare(m: Monitor, point: u32, level: i32, out: &mut [u8; 8192]) 
 }
 
 pub(crate) fn reinstate(m: Monitor, point: u32, out: &mut [u8; 8192]) -> Turn
-    ensures step { λ r. ⌜ Steps (madeCall m (operate reinstate point)) r (now (out .entry)) (now (out .exit)) ⌝ }
-    ensures counts { λ r. ⌜ Counts (r .length) (now (out .exit)) ⌝ }
+    ensures { λ r. ⌜ Steps (madeCall m (operate reinstate point)) r (now (out .entry)) (now (out .exit)) ⌝ }
 {
     let stepped = monitor::reinstate(m, point);
     let verdict = stepped.verdict;
@@ -115,8 +109,7 @@ pub(crate) fn reinstate(m: Monitor, point: u32, out: &mut [u8; 8192]) -> Turn
 }
 
 pub(crate) fn look(m: Monitor, point: u32, out: &mut [u8; 8192]) -> Turn
-    ensures step { λ r. ⌜ Steps (madeCall m (operate look point)) r (now (out .entry)) (now (out .exit)) ⌝ }
-    ensures counts { λ r. ⌜ Counts (r .length) (now (out .exit)) ⌝ }
+    ensures { λ r. ⌜ Steps (madeCall m (operate look point)) r (now (out .entry)) (now (out .exit)) ⌝ }
 {
     let looked = monitor::look(m, point);
     let verdict = looked.verdict;

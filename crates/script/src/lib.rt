@@ -4,7 +4,6 @@ mod calls;
 ghost use mathlib.Core.Path.{_≡_};
 ghost use Prim.Native.Nat.{_≤_};
 ghost use lib.ListN.{length};
-ghost use Rattle.io.specs.Counts.{Counts};
 ghost use Rattle.program.specs.Steps.{Steps};
 ghost use Rattle.script.specs.Items.{intervalItem, declareItem, pointItem, operatorItem, payloadItem, wantedBy, isWhole};
 ghost use Rattle.script.specs.Steps.{unread, madeBy, stepOf};
@@ -13,8 +12,7 @@ use program::Turn;
 
 // A call that cannot be read, whose tag is at this byte.
 fn unreadable(m: Monitor, at: u64, out: &mut [u8; 8192]) -> Turn
-    ensures step { λ r. ⌜ Steps (unread m at) r (now (out .entry)) (now (out .exit)) ⌝ }
-    ensures counts { λ r. ⌜ Counts (r .length) (now (out .exit)) ⌝ }
+    ensures { λ r. ⌜ Steps (unread m at) r (now (out .entry)) (now (out .exit)) ⌝ }
 {
     Turn {
         monitor: m,
@@ -24,8 +22,7 @@ fn unreadable(m: Monitor, at: u64, out: &mut [u8; 8192]) -> Turn
 }
 
 fn interval_call(m: Monitor, at: u64, payload: &[u8], out: &mut [u8; 8192]) -> Turn
-    ensures step { λ r. ⌜ Steps (madeBy m at (intervalItem (now (payload .entry)))) r (now (out .entry)) (now (out .exit)) ⌝ }
-    ensures counts { λ r. ⌜ Counts (r .length) (now (out .exit)) ⌝ }
+    ensures { λ r. ⌜ Steps (madeBy m at (intervalItem (now (payload .entry)))) r (now (out .entry)) (now (out .exit)) ⌝ }
 {
     if payload.len() < 4 {
         return unreadable(m, at, out);
@@ -39,8 +36,7 @@ fn interval_call(m: Monitor, at: u64, payload: &[u8], out: &mut [u8; 8192]) -> T
 }
 
 fn declare_call(m: Monitor, at: u64, payload: &[u8], out: &mut [u8; 8192]) -> Turn
-    ensures step { λ r. ⌜ Steps (madeBy m at (declareItem (now (payload .entry)))) r (now (out .entry)) (now (out .exit)) ⌝ }
-    ensures counts { λ r. ⌜ Counts (r .length) (now (out .exit)) ⌝ }
+    ensures { λ r. ⌜ Steps (madeBy m at (declareItem (now (payload .entry)))) r (now (out .entry)) (now (out .exit)) ⌝ }
 {
     if payload.len() == 8 {
         return calls::declare(
@@ -55,8 +51,7 @@ fn declare_call(m: Monitor, at: u64, payload: &[u8], out: &mut [u8; 8192]) -> Tu
 
 // The calls that take a point alone.
 fn point_call(m: Monitor, at: u64, tag: u32, point: u32, out: &mut [u8; 8192]) -> Turn
-    ensures step { λ r. ⌜ Steps (madeBy m at (pointItem tag point)) r (now (out .entry)) (now (out .exit)) ⌝ }
-    ensures counts { λ r. ⌜ Counts (r .length) (now (out .exit)) ⌝ }
+    ensures { λ r. ⌜ Steps (madeBy m at (pointItem tag point)) r (now (out .entry)) (now (out .exit)) ⌝ }
 {
     if tag == 4 {
         return calls::reinstate(m, point, out);
@@ -68,8 +63,7 @@ fn point_call(m: Monitor, at: u64, tag: u32, point: u32, out: &mut [u8; 8192]) -
 }
 
 fn operator_call(m: Monitor, at: u64, tag: u32, payload: &[u8], out: &mut [u8; 8192]) -> Turn
-    ensures step { λ r. ⌜ Steps (madeBy m at (operatorItem tag (now (payload .entry)))) r (now (out .entry)) (now (out .exit)) ⌝ }
-    ensures counts { λ r. ⌜ Counts (r .length) (now (out .exit)) ⌝ }
+    ensures { λ r. ⌜ Steps (madeBy m at (operatorItem tag (now (payload .entry)))) r (now (out .entry)) (now (out .exit)) ⌝ }
 {
     if tag == 3 {
         return declare_call(m, at, payload, out);
@@ -81,8 +75,7 @@ fn operator_call(m: Monitor, at: u64, tag: u32, payload: &[u8], out: &mut [u8; 8
 }
 
 fn payload_call(m: Monitor, at: u64, tag: u32, payload: &[u8], out: &mut [u8; 8192]) -> Turn
-    ensures step { λ r. ⌜ Steps (madeBy m at (payloadItem tag (now (payload .entry)))) r (now (out .entry)) (now (out .exit)) ⌝ }
-    ensures counts { λ r. ⌜ Counts (r .length) (now (out .exit)) ⌝ }
+    ensures { λ r. ⌜ Steps (madeBy m at (payloadItem tag (now (payload .entry)))) r (now (out .entry)) (now (out .exit)) ⌝ }
 {
     if tag == 1 {
         return calls::load(m, payload, out);
@@ -118,8 +111,7 @@ fn is_whole(call: &[u8]) -> bool
 
 // The bytes that were read for a call, whose tag is at byte `at` of the file: none at its end.
 pub fn step(m: Monitor, at: u64, call: &[u8], out: &mut [u8; 8192]) -> Turn
-    ensures step { λ r. ⌜ Steps (stepOf m at (now (call .entry))) r (now (out .entry)) (now (out .exit)) ⌝ }
-    ensures counts { λ r. ⌜ Counts (r .length) (now (out .exit)) ⌝ }
+    ensures { λ r. ⌜ Steps (stepOf m at (now (call .entry))) r (now (out .entry)) (now (out .exit)) ⌝ }
 {
     if call.len() == 0 {
         return Turn {

@@ -1,26 +1,24 @@
 -- How long a text can be, and what a test of the room gives. Assumes nothing.
-use mathlib.Core.Path.{_≡_, refl, sym, ap, _∙_}
+use mathlib.Core.Path.{_≡_, refl, sym}
 use mathlib.Core.Bool.{Bool, true, false}
-use mathlib.Core.List.{List, [], _∷_, _++_}
-use Prim.Native.Nat.{ℕ, zero, suc, _+_, _-_, _*_, _/_, _^_, _≤_, _<_}
+use mathlib.Core.List.{List}
+use Prim.Native.Nat.{ℕ, suc, _+_, _-_, _*_, _/_, _^_, _≤_, _<_}
 use native.Mathlib.Omega.{arith}
-use borrow.Author.Tests.{leb-true, leb-false, le-leb, lt-leb, ltb-true, ltb-false}
-use lib.Dec.{leb, ltb}
-use lib.IntN.{ℤ, pos, negsuc, natAbs}
+use borrow.Author.Tests.{leb-true, leb-false, le-leb, lt-leb}
+use lib.Dec.{leb}
+use lib.IntN.{ℤ, pos, negsuc}
 use lib.ListN.{length, getD, take, drop, length-append, length-drop}
 use lib.Seq.{getD-take, getD-drop, length-take-le}
 use mir.Syntax.{w32}
-use mir.Val.{SFits, toZ}
+use mir.Val.{SFits}
 use mir.ValLaws.{toZ-fits}
 use Rattle.trace.proofs.Sweeps.{records-at-most}
 use Rattle.wire.specs.Fields.{wordAt, wholeAt}
 use Rattle.wire.proofs.Laws.{four}
 use Rattle.text.specs.Numbers.{decimalOf, wholeOf}
 use Rattle.text.specs.Lines.{lineOf, lineAt, linesOf, numberedOf, standingOf}
-use Rattle.text.specs.Pieces.{field, statusPiece, amountsPiece, runsPiece, levelPiece}
 use Rattle.text.specs.Puts.{Room, Put, PutWithin, hasRoom, longestLine, longestLines}
 use Rattle.text.proofs.Numbers.{length-decimal}
-use Rattle.text.proofs.Lines.{line-pieces, standing-pieces}
 
 -- ---- the test
 

@@ -1,6 +1,5 @@
 // Text put piece by piece, where the caller has shown that there is room for it.
-ghost use mathlib.Core.Path.{_≡_};
-ghost use mathlib.Core.List.{[], _∷_, _++_};
+ghost use mathlib.Core.List.{[], _∷_};
 ghost use Prim.Native.Nat.{_+_, _%_, _≤_, _<_};
 ghost use lib.ListN.{length, getD};
 ghost use Rattle.wire.specs.Fields.{wordAt, wholeAt};

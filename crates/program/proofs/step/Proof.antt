@@ -4,7 +4,6 @@ use mathlib.Core.Path.{_≡_, sym, _∙_}
 use native.Mathlib.Omega.{arith}
 use lib.ListN.{length, take}
 use lib.Seq.{length-take-le}
-use Rattle.program.specs.Steps.{roomOf}
 use Rattle.program.proofs.Turns.{stepped-end, stepped-taken}
 use Rattle.program.proofs.step.Statement.{statement}
 use Rattle.program.proofs.step.Tie as tie

@@ -1,6 +1,5 @@
 -- `script::is_whole` meets its contract. Assumes nothing.
 use borrow.Author.Needs.{needs}
-use mathlib.Core.Path.{sym}
 use Rattle.script.proofs.Readings.{whole-is}
 use Rattle.script.proofs.is_whole.Statement.{statement}
 use Rattle.script.proofs.is_whole.Tie as tie

@@ -1,10 +1,7 @@
 -- `script::calls::declare` meets its contract. Assumes nothing.
 use borrow.Author.Needs.{needs}
-use native.Mathlib.Omega.{arith}
 use mathlib.Core.Path.{_≡_, ap, _∙_}
 use lib.IntN.{ℤ}
-use mir.Syntax.{w32}
-use mir.Val.{toZ, ofZ}
 use Rattle.signed.proofs.Sizes.{back32}
 use Rattle.monitor.specs.Operators.{declareOf}
 use Rattle.script.proofs.Answers.{declared}

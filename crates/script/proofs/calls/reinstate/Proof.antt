@@ -1,6 +1,5 @@
 -- `script::calls::reinstate` meets its contract. Assumes nothing.
 use borrow.Author.Needs.{needs}
-use native.Mathlib.Omega.{arith}
 use Rattle.script.proofs.Answers.{reinstated}
 use Rattle.script.proofs.calls.reinstate.Statement.{statement}
 use Rattle.script.proofs.calls.reinstate.Tie as tie

@@ -2,7 +2,6 @@
 use borrow.Author.Needs.{needs}
 use mathlib.Core.Path.{_≡_, refl}
 use Prim.Native.Nat.{_/_, _-_}
-use native.Mathlib.Omega.{arith}
 use lib.ListN.{length}
 use Rattle.text.proofs.Lines.{Lined, lined-none, lined-record, lined-room, lined-more, lined-length, lined-all}
 use Rattle.text.proofs.pieces.put_lines.Statement.{statement}

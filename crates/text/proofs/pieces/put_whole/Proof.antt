@@ -1,7 +1,7 @@
 -- `text::pieces::put_whole` meets its contract. Assumes nothing.
 use borrow.Author.Needs.{needs}
 use mathlib.Core.Path.{_≡_, sym, ap, _∙_}
-use mathlib.Core.List.{List, _∷_}
+use mathlib.Core.List.{_∷_}
 use Prim.Native.Nat.{ℕ}
 use lib.IntN.{natAbs}
 use mir.Syntax.{w64}
