@@ -139,7 +139,7 @@ def checks(programs):
     monitor_main, replay = programs / "monitor_main", programs / "replay"
     for program, folder in (monitor_main, TESTS / "program" / "largest"), (replay, TESTS / "calls" / "every_status"):
         yield program, folder, failed_write, ()
-    for name in "largest", "chain":
+    for name in "largest", "chain", "refused_21":
         folder = TESTS / "program" / name
         yield monitor_main, folder, one_write_each, (interval_answers(folder),)
     for name in "every_status", "full_plant", "refusals_with_register", "script_late":
