@@ -16,6 +16,7 @@ use Rattle.monitor.specs.declared.Verdict.the-variants.{Accept, Refuse}
 use Rattle.monitor.specs.declared.Stepped.{Stepped}
 use Rattle.monitor.specs.declared.Looked.{Looked}
 use Rattle.monitor.proofs.States.{units-small, aggregates-small}
+use Rattle.monitor.proofs.Verdicts.{passed}
 
 -- ---- where a point is
 
@@ -44,13 +45,7 @@ module _ (m : Monitor) (p : ℕ) where
   -- the state is sound and the point is named
   both-pass : locateOf m p ≡ Accept → (soundOf m ≡ true) × (named (m .plant) p ≡ true)
   unfolding locateOf
-  both-pass e = go (soundOf m) (named (m .plant) p) refl refl e
-    where
-      go : (s n : Bool) → soundOf m ≡ s → named (m .plant) p ≡ n → cond s (cond n Accept (Refuse 10)) (Refuse 20) ≡ Accept
-          → (soundOf m ≡ true) × (named (m .plant) p ≡ true)
-      go true true f g v = (f, g)
-      go true false f g v = absurd (let z : _≡_ {A = ℕ} 0 1 = cc in omega arith)
-      go false n f g v = absurd (let z : _≡_ {A = ℕ} 0 1 = cc in omega arith)
+  both-pass e = let loaded = passed (soundOf m) _ 20 e in (loaded .0, passed (named (m .plant) p) _ 10 (loaded .1) .0)
 
   positive : (q : ℕ) → named (m .plant) q ≡ true → (1 ≤ q) × (q ≤ total (m .plant)) × (place q ≡ q - 1)
   unfolding named

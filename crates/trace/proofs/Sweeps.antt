@@ -240,6 +240,9 @@ module _ (f : ℕ → List ℕ) (size : ℕ) (sized : (i : ℕ) → length (f i)
           )
           (ih b)
 
+  pub written-again : (k : ℕ) (old xs : List ℕ) → xs ≡ written f size k old → xs ≡ written f size k xs
+  written-again k old xs e = rw (e, drop-at (records f k) (drop (size * k) old) (size * k) (length-records k))
+
   pub written-all : (k : ℕ) (old : List ℕ) → length old ≡ size * k → written f size k old ≡ records f k
   written-all k old e = rw (drop-of-length-le old (le-of-eq e), append-nil)
 

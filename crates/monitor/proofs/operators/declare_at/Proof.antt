@@ -3,8 +3,7 @@ use borrow.Author.Needs.{needs}
 use mathlib.Core.Path.{_≡_, ap, _∙_}
 use mir.Syntax.{w32}
 use mir.Val.{toZ, ofZ}
-use mir.ValLaws.{toZ-ofZ}
-use lib.IntN.{ℤ}
+use Rattle.signed.proofs.Sizes.{back32}
 use Rattle.monitor.proofs.Operated.{accepted-at, refused-at}
 use Rattle.points.specs.Points.{declaredAt}
 use Rattle.monitor.specs.Monitors.{pointAt}
@@ -12,11 +11,14 @@ use Rattle.monitor.specs.Operators.{declare, permitDeclare, change, stor
 use Rattle.monitor.proofs.operators.declare_at.Statement.{statement}
 use Rattle.monitor.proofs.operators.declare_at.Tie as tie
 
-level-is : (c : tie.Start) → toZ w32 (ofZ w32 (c .args .level)) ≡ c .args .level
-level-is c = toZ-ofZ w32 (c .args .level) (c .fits .level)
+abbrev permit : tie.After-enum-told → tie.After-permit-declare
+permit c = c .before .before
 
-permitted : (c : tie.After-permit-declare) → c .permit-declare .result ≡ permitDeclare (c .before .before .args .level) (pointAt (c .before .before .args .t1) (c .before .before .args .i))
-permitted c = c .permit-declare .ensures ∙ ap (λ (z : ℤ). permitDeclare z (pointAt (c .before .before .args .t1) (c .before .before .args .i))) (level-is (c .before .before))
+level-is : (c : tie.Start) → toZ w32 (ofZ w32 (c .args .level)) ≡ c .args .level
+level-is c = back32 (c .args .level) (c .fits .level)
+
+permitted : (c : tie.After-permit-declare) → let s = c .before .before .args in c .permit-declare .result ≡ permitDeclare (s .level) (pointAt (s .t1) (s .i))
+permitted c = rw (← level-is (c .before .before)) (c .permit-declare .ensures)
 
 mul-q : tie.Need-mul-q
 mul-q c = search needs
@@ -42,12 +44,12 @@ enum-told-2 c = search needs
 returns : tie.Need-returns
 unfolding change
 returns c =
-    let s = c .before .before .before .before .before .before .args in
-    accepted-at (declare (s .level)) (s .t1) (s .i) (c .before .before .before .before .permit-declare .result) (permitted (c .before .before .before .before)) (c .store .result) (c .before .before .enum-told .given .1)
-    (c .store .ensures ∙ ap (stored (s .t1) (s .i)) (c .before .declare .ensures ∙ ap declaredAt (level-is (c .before .before .before .before .before .before))))
+    let told = c .before .before in
+    let declared = c .before .declare .ensures ∙ ap declaredAt (level-is (permit told .before .before)) in
+    accepted-at (declare _) _ _ _ (permitted (permit told)) _ (told .enum-told .given .1) (c .store .ensures ∙ ap (stored _ _) declared)
 
 returns-2 : tie.Need-returns-2
-returns-2 c = let s = c .before .before .before .before .args in refused-at (declare (s .level)) (s .t1) (s .i) (c .before .before .permit-declare .result) (permitted (c .before .before)) _ (c .enum-told2 .given .1)
+returns-2 c = refused-at (declare _) _ _ _ (permitted (c .before .before)) _ (c .enum-told2 .given .1)
 
 pub declare-at-spec : {M : Type 1} → statement M
 declare-at-spec =

@@ -9,6 +9,9 @@ use Rattle.monitor.specs.Monitors.{soundOf}
 use Rattle.monitor.proofs.operators.locate.Statement.{statement}
 use Rattle.monitor.proofs.operators.locate.Tie as tie
 
+abbrev loaded : tie.After-is-named → tie.Else1
+loaded c = c .before .before
+
 sound : (c : tie.Else1) → soundOf (c .before .before .args .m) ≡ true
 sound c = sym (c .before .is-sound .ensures) ∙ not-false _ (c .if1 .left)
 
@@ -16,16 +19,16 @@ is-sound-requires : tie.Need-is-sound-requires
 is-sound-requires c κs = search needs
 
 returns : tie.Need-returns
-returns c = sym (locates-20 (c .before .before .args .m) (c .before .before .args .point) (sym (c .before .is-sound .ensures) ∙ not-true _ (c .if1 .taken)))
+returns c = sym (locates-20 _ _ (sym (c .before .is-sound .ensures) ∙ not-true _ (c .if1 .taken)))
 
 is-named-requires : tie.Need-is-named-requires
-is-named-requires c κs = (units-small (c .before .before .before .args .m) (sound (c .before)), aggregates-small (c .before .before .before .args .m) (sound (c .before)))
+is-named-requires c κs = (units-small _ (sound (c .before)), aggregates-small _ (sound (c .before)))
 
 returns-2 : tie.Need-returns-2
-returns-2 c = sym (locates-10 (c .before .before .before .before .before .args .m) (c .before .before .before .before .before .args .point) (sound (c .before .before .before)) (named-is (c .before .before .before .before .before .args .m .plant) (c .before .before .before .before .before .args .point) ∙ sym (c .before .is-named .ensures) ∙ not-true _ (c .if2 .taken)))
+returns-2 c = sym (locates-10 _ _ (sound (loaded (c .before))) (named-is _ _ ∙ sym (c .before .is-named .ensures) ∙ not-true _ (c .if2 .taken)))
 
 returns-3 : tie.Need-returns-3
-returns-3 c = sym (locates (c .before .before .before .before .before .args .m) (c .before .before .before .before .before .args .point) (sound (c .before .before .before)) (named-is (c .before .before .before .before .before .args .m .plant) (c .before .before .before .before .before .args .point) ∙ sym (c .before .is-named .ensures) ∙ not-false _ (c .if2 .left)))
+returns-3 c = sym (locates _ _ (sound (loaded (c .before))) (named-is _ _ ∙ sym (c .before .is-named .ensures) ∙ not-false _ (c .if2 .left)))
 
 pub locate-spec : {M : Type 1} → statement M
 locate-spec = tie.close (tie.spec is-sound-requires returns is-named-requires returns-2 returns-3)

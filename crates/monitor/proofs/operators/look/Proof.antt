@@ -9,16 +9,11 @@ use Rattle.monitor.proofs.Refusals.{looks}
 use Rattle.monitor.proofs.operators.look.Statement.{statement}
 use Rattle.monitor.proofs.operators.look.Tie as tie
 
--- the call's arguments, and what locate gave, where it accepts
-abbrev start : tie.After-enum-told → tie.Start
-start c = c .before .before .before
-
 abbrev past : tie.After-enum-told → tie.After-locate
 past c = c .before .before
 
-found : (c : tie.After-enum-told)
-    → (1 ≤ start c .args .point) × (start c .args .point ≤ 80) × (place (start c .args .point) ≡ start c .args .point - 1)
-found c = located (start c .args .m) (start c .args .point) (sym (past c .locate .ensures) ∙ c .enum-told .given .1)
+found : (c : tie.After-enum-told) → let p = past c .before .args .point in (1 ≤ p) × (p ≤ 80) × (place p ≡ p - 1)
+found c = located _ _ (sym (past c .locate .ensures) ∙ c .enum-told .given .1)
 
 locate-requires : tie.Need-locate-requires
 locate-requires c κs = search needs
@@ -42,18 +37,12 @@ normal-point-requires : tie.Need-normal-point-requires
 normal-point-requires c κs = search needs
 
 returns : tie.Need-returns
-returns c =
-    let s = start (c .before) .args in
-    let l = past (c .before) .locate in
-    looks (s .m) (s .point) _
-    (c .look-at .ensures ∙ located-look (s .m) (s .point) (l .result) (l .ensures) (s .point - 1) (c .before .enum-told .given .1) refl)
+returns c = looks _ _ _ (c .look-at .ensures ∙ located-look _ _ _ (past (c .before) .locate .ensures) _ (c .before .enum-told .given .1) refl)
 
 returns-2 : tie.Need-returns-2
 returns-2 c =
-    let l = c .before .before .before in
-    let s = l .before .args in
-    looks (s .m) (s .point) _
-    (rw (c .normal-point .ensures) (refused-look (s .m) (s .point) (l .locate .result) (l .locate .ensures) _ (c .before .enum-told2 .given .1)))
+    let told = c .before in
+    looks _ _ _ (rw (c .normal-point .ensures) (refused-look _ _ _ (told .before .before .locate .ensures) _ (told .enum-told2 .given .1)))
 
 pub look-spec : {M : Type 1} → statement M
 look-spec =

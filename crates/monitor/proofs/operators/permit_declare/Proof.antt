@@ -2,17 +2,19 @@
 use borrow.Author.Needs.{needs}
 use mathlib.Core.Path.{_≡_, ap, _∙_}
 use lib.IntN.{natAbs}
-use mir.Syntax.{w32, w64}
+use mir.Syntax.{w64}
 use mir.Val.{toZ, ofZ}
-use mir.ValLaws.{toZ-ofZ}
 use borrow.Author.Tests.{le-leb, lt-leb}
-use Rattle.signed.proofs.Sizes.{held64, size32}
+use Rattle.signed.proofs.Sizes.{back32, held64, size32}
 use Rattle.monitor.specs.Operators.{permit}
 use Rattle.monitor.proofs.operators.permit_declare.Statement.{statement}
 use Rattle.monitor.proofs.operators.permit_declare.Tie as tie
 
+abbrev sized : tie.After-struct-known2 → tie.Then1
+sized c = c .before .before
+
 wide-is : (c : tie.After-widened) → toZ w64 (ofZ w64 (c .widened .result)) ≡ (c .before) .args .level
-wide-is c = held64 (c .widened .result) (c .widened .ok) ∙ c .widened .ensures ∙ toZ-ofZ w32 (c .before .args .level) (c .before .fits .level)
+wide-is c = held64 (c .widened .result) (c .widened .ok) ∙ c .widened .ensures ∙ back32 (c .before .args .level) (c .before .fits .level)
 
 size-is : (c : tie.After-size) → c .size .result ≡ natAbs (c .before .before .args .level)
 size-is c = c .size .ensures ∙ ap natAbs (wide-is (c .before))
@@ -25,11 +27,11 @@ size-requires c κs = rw (wide-is c) (size32 (c .before .args .level) (c .before
 
 returns : tie.Need-returns
 unfolding permit
-returns c = rw (← size-is (c .before .before .before .before), le-leb _ _ (c .before .before .before .if1 .taken), c .if2 .taken)
+returns c = rw (← size-is (sized (c .before) .before), le-leb _ _ (sized (c .before) .if1 .taken), c .if2 .taken)
 
 returns-2 : tie.Need-returns-2
 unfolding permit
-returns-2 c = rw (← size-is (c .before .before .before .before), le-leb _ _ (c .before .before .before .if1 .taken), c .if2 .left)
+returns-2 c = rw (← size-is (sized (c .before) .before), le-leb _ _ (sized (c .before) .if1 .taken), c .if2 .left)
 
 returns-3 : tie.Need-returns-3
 unfolding permit

@@ -10,16 +10,11 @@ use Rattle.monitor.specs.Operators.{reinstate}
 use Rattle.monitor.proofs.operators.reinstate.Statement.{statement}
 use Rattle.monitor.proofs.operators.reinstate.Tie as tie
 
--- the call's arguments, and what locate gave, where it accepts
-abbrev start : tie.After-enum-told → tie.Start
-start c = c .before .before .before
-
 abbrev past : tie.After-enum-told → tie.After-locate
 past c = c .before .before
 
-found : (c : tie.After-enum-told)
-    → (1 ≤ start c .args .point) × (start c .args .point ≤ 80) × (place (start c .args .point) ≡ start c .args .point - 1)
-found c = located (start c .args .m) (start c .args .point) (sym (past c .locate .ensures) ∙ c .enum-told .given .1)
+found : (c : tie.After-enum-told) → let p = past c .before .args .point in (1 ≤ p) × (p ≤ 80) × (place p ≡ p - 1)
+found c = located _ _ (sym (past c .locate .ensures) ∙ c .enum-told .given .1)
 
 locate-requires : tie.Need-locate-requires
 locate-requires c κs = search needs
@@ -41,18 +36,11 @@ enum-told-2 c = search needs
 
 returns : tie.Need-returns
 returns c =
-    let s = start (c .before) .args in
-    let l = past (c .before) .locate in
-    operator-answered (s .m) (s .point) reinstate _
-    (c .reinstate-at .ensures
-    ∙ located-call (s .m) (s .point) (l .result) (l .ensures) reinstate (s .point - 1) (c .before .enum-told .given .1) refl)
+    let at = located-call _ _ _ (past (c .before) .locate .ensures) reinstate _ (c .before .enum-told .given .1) refl in
+    operator-answered _ _ reinstate _ (c .reinstate-at .ensures ∙ at)
 
 returns-2 : tie.Need-returns-2
-returns-2 c =
-    let l = c .before .before in
-    let s = l .before .args in
-    operator-answered (s .m) (s .point) reinstate _
-    (refused-call (s .m) (s .point) (l .locate .result) (l .locate .ensures) reinstate _ (c .enum-told2 .given .1))
+returns-2 c = operator-answered _ _ reinstate _ (refused-call _ _ _ (c .before .before .locate .ensures) reinstate _ (c .enum-told2 .given .1))
 
 pub reinstate-spec : {M : Type 1} → statement M
 reinstate-spec =

@@ -30,12 +30,12 @@ enum-told-2 c = search needs
 returns : tie.Need-returns
 unfolding change
 returns c =
-    let s = c .before .before .before .before .before .before .args in
-    accepted-at reinstate (s .t1) (s .i) (c .before .before .before .before .permit-reinstate .result) (c .before .before .before .before .permit-reinstate .ensures) (c .store .result) (c .before .before .enum-told .given .1)
-    (c .store .ensures ∙ ap (stored (s .t1) (s .i)) (c .before .reinstate .ensures))
+    let told = c .before .before in
+    let permit = told .before .before .permit-reinstate in
+    accepted-at reinstate _ _ _ (permit .ensures) _ (told .enum-told .given .1) (c .store .ensures ∙ ap (stored _ _) (c .before .reinstate .ensures))
 
 returns-2 : tie.Need-returns-2
-returns-2 c = let s = c .before .before .before .before .args in refused-at reinstate (s .t1) (s .i) (c .before .before .permit-reinstate .result) (c .before .before .permit-reinstate .ensures) _ (c .enum-told2 .given .1)
+returns-2 c = refused-at reinstate _ _ _ (c .before .before .permit-reinstate .ensures) _ (c .enum-told2 .given .1)
 
 pub reinstate-at-spec : {M : Type 1} → statement M
 reinstate-at-spec =
