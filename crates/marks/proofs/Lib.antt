@@ -1,5 +1,5 @@
 -- What belongs to no one function.
 pub mod Small
+pub mod Held
 pub mod Thresholds
-pub mod Orders
 pub mod Rows

@@ -9,7 +9,8 @@ use Rattle.telemetry.specs.declared.Reading.the-variants.{Good}
 use Rattle.telemetry.proofs.Rows.{rows}
 use Rattle.marks.specs.Triggers.{directionOf, rateOf, unitCapability, triggerOf}
 use Rattle.marks.specs.Errors.{errorOf, exceeds}
-use Rattle.marks.specs.Assessments.{kilowattsIn, isMissing, isDoubtful, isKnown, markOf, judged, upOf, downOf, unitBasis, readableAssessment, unitAssessment}
+use Rattle.marks.specs.Assessments.{kilowattsIn, isMissing, isDoubtful, isKnown, markOf, judged, upOf, downOf}
+use Rattle.marks.specs.Assessments.{unitBasis, readableAssessment, unitAssessment}
 use Rattle.marks.specs.Table.{Triggers, Assessed, Table, keptRow}
 use Rattle.marks.specs.declared.Basis.{Basis}
 use Rattle.marks.specs.declared.Mark.{Mark}

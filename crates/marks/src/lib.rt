@@ -6,11 +6,13 @@ ghost use Prim.Native.Nat.{_*_, _-_, _^_, _<_, _≤_, min, max};
 ghost use lib.IntN.{natAbs};
 ghost use lib.ListN.{length};
 ghost use Rattle.telemetry.specs.Kilowatts.{kilowattsOf};
-ghost use Rattle.marks.specs.Triggers.{directionOf, opposite, rateOf, capabilityOf, addCapability, triggerOf};
-ghost use Rattle.marks.specs.Errors.{errorOf, exceeds};
+ghost use Rattle.marks.specs.Triggers.{directionOf, opposite, rateOf, capabilityOf, unitCapability, addCapability, triggerOf};
+ghost use Rattle.marks.specs.Errors.{overOf, underOf, errorOf, exceeds};
 ghost use Rattle.marks.specs.KeptLines.{nothingKept, keptBounded, keptFrom};
-ghost use Rattle.marks.specs.Assessments.{kilowattsIn, isMissing, isDoubtful, isKnown, markOf, judged, without, upOf, downOf, unitBasis, readableAssessment, unitAssessment};
-ghost use Rattle.marks.specs.Aggregates.{addSigned, addFlags, unreadableFlags, addPresent, addKept, addReadable, addUnreadable, addMember, noSums, aggregateBasis, sumsAssessment};
+ghost use Rattle.marks.specs.Assessments.{kilowattsIn, isMissing, isDoubtful, isKnown, markOf, judged, without, upOf, downOf};
+ghost use Rattle.marks.specs.Assessments.{unitBasis, readableAssessment, unitAssessment};
+ghost use Rattle.marks.specs.Aggregates.{addSigned, addFlags, unreadableFlags, addPresent, addKept, addReadable, addUnreadable};
+ghost use Rattle.marks.specs.Aggregates.{addMember, noSums, aggregateBasis, sumsAssessment};
 ghost use Rattle.marks.specs.Bounds.{SmallFields, SmallKept, SmallSight, SmallCapability, SmallPresent, SmallKeptSums, SmallSums, SmallBasis};
 ghost use Rattle.marks.specs.Hosts.{markNumber, secondMark, unitMarkOf};
 use telemetry::Fields;
@@ -89,11 +91,15 @@ impl Capability {
         ensures { λ r. ⌜ r ≡ addCapability counts self unit ⌝ }
     {
         if counts {
+            let availability = self.availability + unit.availability;
+            let up = self.up + unit.up;
+            let down = self.down + unit.down;
+            let least = self.least + unit.least;
             Capability {
-                availability: self.availability + unit.availability,
-                up: self.up + unit.up,
-                down: self.down + unit.down,
-                least: self.least + unit.least,
+                availability,
+                up,
+                down,
+                least,
             }
         } else {
             self
@@ -205,16 +211,32 @@ fn trigger_of(share: u64, ramping: u64, availability: u64, rate: u64) -> u64
     greater(600000, lesser(share * availability, ramping * rate))
 }
 
-// How far the power is above the target with its up side or below the target with its down side.
+// How far the power is above the target with its up side.
+fn over_of(b: Basis) -> i64
+    requires { ⌜ SmallBasis b ⌝ }
+    ensures { λ r. ⌜ r ≡ overOf b ⌝ }
+{
+    signed::minus(b.power, signed::plus(b.target, b.up))
+}
+
+// How far the power is below the target with its down side, negative where it is.
+fn under_of(b: Basis) -> i64
+    requires { ⌜ SmallBasis b ⌝ }
+    ensures { λ r. ⌜ r ≡ underOf b ⌝ }
+{
+    signed::minus(0, signed::minus(signed::minus(b.target, b.down), b.power))
+}
+
+// `over` where it is positive, else `under` where it is negative, else 0.
 fn error_of(b: Basis) -> i64
     requires { ⌜ SmallBasis b ⌝ }
     ensures { λ r. ⌜ r ≡ errorOf b ⌝ }
 {
-    let over = signed::minus(b.power, signed::plus(b.target, b.up));
+    let over = over_of(b);
     if over > 0 {
         return over;
     }
-    let under = signed::minus(0, signed::minus(signed::minus(b.target, b.down), b.power));
+    let under = under_of(b);
     if under < 0 {
         return under;
     }
@@ -252,10 +274,11 @@ fn judge(b: Basis) -> Assessment
     let small = trigger_of(3, 200, b.availability, b.rate);
     let large = trigger_of(5, 400, b.availability, b.rate);
     let mark = mark_of(error, small, large, b.doubtful);
+    let trigger = small as u32;
     Assessment {
         mark,
         error: signed::narrowed(error),
-        trigger: small as u32,
+        trigger,
         power: signed::narrowed(b.power),
     }
 }
@@ -339,21 +362,29 @@ fn down_of(kind: u8, k: Kept) -> i64
     }
 }
 
+// The rate of change goes by this line's target.
+fn unit_rate(f: Fields, power: i64) -> u64
+    ensures { λ r. ⌜ r ≡ rateOf (directionOf (f .target) power) (unitCapability f) ⌝ }
+{
+    let direction = direction_of(signed::widened(f.target), power);
+    let readings = f.readings;
+    let unit = capability_of(readings, f.availability, f.bid_up, f.bid_down);
+    unit.rate(direction)
+}
+
 fn unit_basis(kind: u8, f: Fields, k: Kept) -> Basis
     ensures { λ r. ⌜ r ≡ unitBasis kind f k ⌝ }
 {
     let reading = f.power();
     let power = signed::widened(power_in(reading));
-    let direction = direction_of(signed::widened(f.target), power);
-    let readings = f.readings;
-    let unit = capability_of(readings, f.availability, f.bid_up, f.bid_down);
+    let availability = f.availability as u64;
     Basis {
         power,
         target: signed::widened(k.target),
         up: up_of(kind, k),
         down: down_of(kind, k),
-        availability: f.availability as u64,
-        rate: unit.rate(direction),
+        availability,
+        rate: unit_rate(f, power),
         doubtful: is_doubtful(reading),
     }
 }

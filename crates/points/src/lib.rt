@@ -1,11 +1,10 @@
 // A point's record (01, "Marks and runs") and its 16 bytes of the report ("Report and operator calls").
 ghost use mathlib.Core.Path.{_≡_};
-ghost use mathlib.Core.Bool.{_||_};
 ghost use Prim.Native.Nat.{_+_, _≤_, min};
 ghost use lib.ListN.{length};
 ghost use Rattle.wire.specs.Fields.{putAt};
 ghost use Rattle.points.specs.Points.{normal, declaredAt, cleared, reaches, counted, statusOf, graded, isCounted, declares, settled, markedBy};
-ghost use Rattle.points.specs.Records.{headOf, recordOf};
+ghost use Rattle.points.specs.Records.{recordOf};
 use marks::Assessment;
 use marks::Mark;
 use register::Lengths;
@@ -46,7 +45,7 @@ impl Point {
     }
 
     // The runs with one mark more.
-    pub fn count(self, mark: Mark) -> Point
+    pub fn count(mut self, mark: Mark) -> Point
         ensures { λ r. ⌜ r ≡ counted mark self ⌝ }
     {
         match mark {
@@ -54,18 +53,16 @@ impl Point {
             Mark::Blank => self,
             Mark::Clear => self.clear(),
             Mark::Doubt => self,
-            Mark::Small => Point {
-                status: self.status,
-                small: one_more(self.small),
-                large: 0,
-                level: self.level,
-            },
-            Mark::Large => Point {
-                status: self.status,
-                small: one_more(self.small),
-                large: one_more(self.large),
-                level: self.level,
-            },
+            Mark::Small => {
+                self.small = one_more(self.small);
+                self.large = 0;
+                self
+            }
+            Mark::Large => {
+                self.small = one_more(self.small);
+                self.large = one_more(self.large);
+                self
+            }
         }
     }
 
@@ -180,24 +177,14 @@ pub fn normal_point() -> Point
 
 // ---- the report
 
-// Status, mark and runs, one byte each.
-fn put_head(report: &mut [u8], at: usize, mark: u8, p: Point)
-    requires { ⌜ at + 16 ≤ length (now report) ⌝ }
-    ensures { λ _. ⌜ now (report .exit) ≡ putAt (now (report .entry)) at (headOf mark p) ⌝ }
-{
-    report[at] = p.status;
-    report[at + 1] = mark;
-    report[at + 2] = p.small;
-    report[at + 3] = p.large;
-}
-
 // The 16 bytes of a point from `at` on.
 pub fn put_record(report: &mut [u8], at: usize, a: Assessment, p: Point)
     requires { ⌜ at + 16 ≤ length (now report) ⌝ }
     ensures { λ _. ⌜ now (report .exit) ≡ putAt (now (report .entry)) at (recordOf a p) ⌝ }
 {
     let mark = a.mark;
-    put_head(report, at, marks::mark_number(mark), p);
+    let number = marks::mark_number(mark);
+    wire::put_four(report, at, p.status, number, p.small, p.large);
     wire::put_whole(report, at + 4, a.error);
     wire::put_word(report, at + 8, a.trigger);
     wire::put_whole(report, at + 12, p.level);

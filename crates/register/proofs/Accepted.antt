@@ -1,17 +1,16 @@
 -- What an accepted register gives: the plant that it loads, and the laws of that plant's chains. Assumes nothing.
 use mathlib.Core.Path.{_≡_, refl, sym, ap, _∙_}
 use mathlib.Core.Logic.{_⊎_, inl, inr}
-use mathlib.Core.Bool.{Bool, true, false, _&&_, _||_}
+use mathlib.Core.Bool.{Bool, true, false, _&&_}
 use mathlib.Core.List.{List}
 use Prim.Native.Nat.{ℕ, zero, suc, _+_, _≤_, _<_}
 use native.Mathlib.Omega.{arith}
 use borrow.Author.Tests.{leb-true, leb-false, le-leb, eqb-true, eq-eqb}
-use lib.Dec.{leb, eqb, lit≤}
+use lib.Dec.{leb}
 use lib.ListN.{length, getD, replicate, length-replicate}
 use Rattle.trace.specs.Sweeps.{sweep, records}
 use Rattle.trace.proofs.Sweeps.{below-or-not, every-at, every-all, length-sweep, getD-sweep}
 use Rattle.trace.proofs.Tests.{and-l, and-r}
-use Rattle.register.specs.declared.Answer.{Answer}
 use Rattle.register.specs.declared.Answer.the-variants.{Accepted}
 use Rattle.register.specs.declared.Plant.{Plant}
 use Rattle.register.specs.declared.Registered.{Registered}
@@ -19,7 +18,7 @@ use Rattle.register.specs.Fields.{unitCount, aggregateCount, lengthsAt, 
 use Rattle.register.specs.Chains.{chain, Chain, membersOf, allMembers, timesIn, metAt, chainedOf, withChains}
 use Rattle.register.specs.Rules.{longEnough, countsIn, wholeLength, rising, headerSpare, unitsSpare, headsSpare, onceAt, endsAt}
 use Rattle.register.specs.Plants.{kindsKnown, indicesIn, metOnce, restEnds, plantSound}
-use Rattle.register.specs.Registers.{answerVisits, noPlant, unless, refusedBy, acceptedAs}
+use Rattle.register.specs.Registers.{noPlant, unless, refusedBy, acceptedAs}
 use Rattle.register.specs.Registers.{lengthsRise, fieldsKnown, chainedFrom, recordsFrom, registeredOf}
 use Rattle.register.proofs.Soundness.{sound-by, sound-units, sound-indices, head-least}
 use Rattle.register.proofs.Chains.{chain-whole, chain-same, units-in}
@@ -52,15 +51,24 @@ module _ (bytes : List ℕ) (visits : ℕ) (accepted : registeredOf bytes .answe
   pub accepted-passed : Passed bytes
   unfolding registeredOf recordsFrom chainedFrom
   accepted-passed =
-      let a = unless-passed (longEnough bytes) 1 visits _ accepted in
-      let b = unless-passed (countsIn (unitCount bytes) (aggregateCount bytes)) 2 visits _ (a .1) in
-      let c = unless-passed (wholeLength bytes) 1 visits _ (b .1) in
-      let d = unless-passed (lengthsRise bytes) 3 visits _ (c .1) in
-      let e = unless-passed (fieldsKnown bytes) 4 visits _ (d .1) in
-      let f = unless-passed (indicesIn p) 5 visits _ (e .1) in
-      let g = unless-passed (metOnce p) 6 visits _ (f .1) in
-      let h = unless-passed (restEnds (withChains p)) 7 visits (acceptedAs p) (g .1) in
-      record { long = a .0; counts = b .0; whole = c .0; rise = d .0; known = e .0; inside = f .0; once = g .0; ends = h .0 }
+      let long = unless-passed (longEnough bytes) 1 visits _ accepted in
+      let counts = unless-passed (countsIn (unitCount bytes) (aggregateCount bytes)) 2 visits _ (long .1) in
+      let whole = unless-passed (wholeLength bytes) 1 visits _ (counts .1) in
+      let rise = unless-passed (lengthsRise bytes) 3 visits _ (whole .1) in
+      let known = unless-passed (fieldsKnown bytes) 4 visits _ (rise .1) in
+      let inside = unless-passed (indicesIn p) 5 visits _ (known .1) in
+      let once = unless-passed (metOnce p) 6 visits _ (inside .1) in
+      let ends = unless-passed (restEnds (withChains p)) 7 visits (acceptedAs p) (once .1) in
+      record {
+        long = long .0;
+        counts = counts .0;
+        whole = whole .0;
+        rise = rise .0;
+        known = known .0;
+        inside = inside .0;
+        once = once .0;
+        ends = ends .0;
+      }
 
 pub passed-accepted : (bytes : List ℕ) → Passed bytes → registeredOf bytes ≡ acceptedAs (fieldsOf bytes)
 unfolding registeredOf recordsFrom chainedFrom
@@ -99,18 +107,6 @@ passed-loaded bytes q =
       heads = length-swept (fieldAt bytes (headsPlace bytes)) (aggregateCount bytes) 16;
     }
 
-one-count : (a : Answer) (m n : ℕ) → a ≡ Accepted m → a ≡ Accepted n → m ≡ n
-one-count a m n p q = cc
-
-or-right : (a b : Bool) → a ≡ false → (a || b) ≡ true → b ≡ true
-or-right false b e h = h
-or-right true true e h = refl
-or-right true false e h = sym e
-
-all-marked : (p : Plant) → allMembers (withChains p) ≡ allMembers p
-unfolding withChains allMembers membersOf
-all-marked p = refl
-
 module _ (bytes : List ℕ) (visits : ℕ) (accepted : registeredOf bytes .answer ≡ Accepted visits) where
   passed : Passed bytes
   passed = accepted-passed bytes visits accepted
@@ -122,61 +118,9 @@ module _ (bytes : List ℕ) (visits : ℕ) (accepted : registeredOf bytes .answe
   pub accepted-loaded : Loaded (registeredOf bytes .plant)
   accepted-loaded = rw accepted-plant (passed-loaded bytes passed)
 
-  -- the visits are the number of units in chains
-  pub accepted-visits : visits ≡ length (allMembers (registeredOf bytes .plant))
-  unfolding acceptedAs
-  accepted-visits =
-      let p = fieldsOf bytes in
-      let e = passed-accepted bytes passed in
-      let counted : registeredOf bytes .answer ≡ Accepted (length (allMembers p)) = ap (λ (r : Registered). r .answer) e in
-      one-count (registeredOf bytes .answer) visits (length (allMembers p)) accepted counted
-      ∙ ap length (sym (all-marked p) ∙ ap allMembers (sym accepted-plant))
-
-less : (j k : ℕ) → (j ≡ k → ⊥) → k ≤ j → k < j
-less j k n l = go (below-or-not k j)
-  where
-    go : (k < j) ⊎ (j ≤ k) → k < j
-    go (inl q) = q
-    go (inr q) = absurd (n (omega arith))
-
--- ---- accepted, or refused by a number from 1 to 7
-
-abbrev pub Settled : Registered → Type 0
-Settled r = ((visits : ℕ) × (r .answer ≡ Accepted visits)) ⊎ ((number : ℕ) × (((1 ≤ number) × (number ≤ 7)) × (r ≡ refusedBy number)))
-
-unless-settled : (t : Bool) (number : ℕ) (rest : Registered) → 1 ≤ number → number ≤ 7 → Settled rest → Settled (unless t number rest)
-unless-settled true number rest a b s = s
-unless-settled false number rest a b s = inr (number, ((a, b), refl))
-
-pub register-settled : (bytes : List ℕ) → Settled (registeredOf bytes)
-unfolding registeredOf recordsFrom chainedFrom acceptedAs
-register-settled bytes =
-    let p = fieldsOf bytes in
-    unless-settled (longEnough bytes) 1 _ (lit≤ tt) (lit≤ tt)
-    (unless-settled (countsIn (unitCount bytes) (aggregateCount bytes)) 2 _ (lit≤ tt) (lit≤ tt)
-    (unless-settled (wholeLength bytes) 1 _ (lit≤ tt) (lit≤ tt)
-    (unless-settled (lengthsRise bytes) 3 _ (lit≤ tt) (lit≤ tt)
-    (unless-settled (fieldsKnown bytes) 4 _ (lit≤ tt) (lit≤ tt)
-    (unless-settled (indicesIn p) 5 _ (lit≤ tt) (lit≤ tt)
-    (unless-settled (metOnce p) 6 _ (lit≤ tt) (lit≤ tt)
-    (unless-settled (restEnds (withChains p)) 7 (acceptedAs p) (lit≤ tt) (lit≤ tt) (inl (length (allMembers p), refl)))))))))
-
 pub no-plant-unsound : plantSound noPlant ≡ false
 unfolding plantSound noPlant
 no-plant-unsound = refl
-
-refused-visits : (number : ℕ) → answerVisits (refusedBy number .answer) ≡ length (allMembers (refusedBy number .plant))
-unfolding answerVisits refusedBy noPlant allMembers records
-refused-visits number = refl
-
--- the visits are the number of units in the chains of the plant that is returned; a refused register returns none
-pub visits-counted : (bytes : List ℕ) → answerVisits (registeredOf bytes .answer) ≡ length (allMembers (registeredOf bytes .plant))
-unfolding answerVisits
-visits-counted bytes = go (register-settled bytes)
-  where
-    go : Settled (registeredOf bytes) → answerVisits (registeredOf bytes .answer) ≡ length (allMembers (registeredOf bytes .plant))
-    go (inl s) = ap answerVisits (s .1) ∙ accepted-visits bytes (s .0) (s .1)
-    go (inr s) = rw (s .1 .1) (refused-visits (s .0))
 
 -- ---- refusal 6, whatever the order of the chains: no unit twice in a chain, and none in two
 
@@ -215,8 +159,7 @@ module _ (p : Plant) (inside : indicesIn p ≡ true) where
       go : (unit j k : ℕ) → j < p .aggregates → k < p .aggregates → (j ≡ k → ⊥) → 1 ≤ timesIn unit (membersOf p j)
           → (j < k) ⊎ (k ≤ j) → timesIn unit (membersOf p k) ≡ 0
       go unit j k a b n m (inl l) = let h = two-once e unit j k l b in omega arith
-      go unit j k a b n m (inr l) =
-          let q : k < j = less j k n l in let h = two-once e unit k j q a in omega arith
+      go unit j k a b n m (inr l) = let h = two-once e unit k j (omega arith) a in omega arith
 
 pub apart-once : (p : Plant) → Apart p → metOnce p ≡ true
 unfolding metOnce allMembers
@@ -304,5 +247,4 @@ module _ (p : Plant) (loaded : Loaded p) where
     pub unmarked-ends : getD (p .chained) i false ≡ false → getD (p .next) i 0 ≡ 0
     unfolding restEnds
     unmarked-ends e =
-        eqb-true (getD (p .next) i 0) 0
-        (or-right (getD (p .chained) i false) (eqb (getD (p .next) i 0) 0) e (every-at (endsAt (p .chained) (p .next)) (p .units) (loaded .ends) i l))
+        eqb-true (getD (p .next) i 0) 0 (rw e at (every-at (endsAt (p .chained) (p .next)) (p .units) (loaded .ends) i l))

@@ -82,10 +82,6 @@ module _ (n : ℕ) where
   unfolding Units
   units-none = tt
 
-  pub units-more : (x : ℕ) (xs : List ℕ) → 1 ≤ x → x ≤ n → Units n xs → Units n (x ∷ xs)
-  unfolding Units
-  units-more x xs a b r = ((a, b), r)
-
   pub units-append : (xs ys : List ℕ) → Units n xs → Units n ys → Units n (xs ++ ys)
   unfolding Units
   units-append [] ys a b = b

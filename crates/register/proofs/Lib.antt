@@ -3,7 +3,6 @@ pub mod Soundness
 pub mod Chains
 pub mod Walks
 pub mod Members
-pub mod Verdicts
 pub mod Readings
 pub mod Accepted
 pub mod Refusals

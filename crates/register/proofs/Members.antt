@@ -1,7 +1,7 @@
 -- How often a unit stands in lists that are put one after another, whatever their order; and how long a list without a unit
 -- twice can be. Assumes nothing.
 use mathlib.Core.Path.{_≡_, refl}
-use mathlib.Core.Logic.{_⊎_, inl, inr}
+use mathlib.Core.Logic.{⊎-elim}
 use mathlib.Core.Bool.{Bool, true, false, cond}
 use mathlib.Core.List.{List, [], _∷_}
 use Prim.Native.Nat.{ℕ, zero, suc, _+_, _≤_, _<_}
@@ -25,21 +25,16 @@ module _ (f : ℕ → List ℕ) (unit : ℕ) where
 
   pub times-one : (k j : ℕ) → j < k → timesIn unit (f j) ≤ timesIn unit (records f k)
   times-one zero j l = absurd (omega arith)
-  times-one (suc k) j l = go (eq-or-lt-of-le (le-of-suc-le-suc l)) (λ b. times-one k j b)
-    where
-      go : (j ≡ k) ⊎ (j < k) → (j < k → timesIn unit (f j) ≤ timesIn unit (records f k)) → timesIn unit (f j) ≤ timesIn unit (records f (suc k))
-      go (inl e) rest = rw e (omega (arith, times-next k))
-      go (inr b) rest = let h = rest b in omega (arith, times-next k)
+  times-one (suc k) j l =
+      ⊎-elim (λ e. rw e (omega (arith, times-next k))) (λ b. omega (arith, times-next k, times-one k j b)) (eq-or-lt-of-le (le-of-suc-le-suc l))
 
   pub times-two : (k i j : ℕ) → i < j → j < k → timesIn unit (f i) + timesIn unit (f j) ≤ timesIn unit (records f k)
   times-two zero i j a b = absurd (omega arith)
-  times-two (suc k) i j a b = go (eq-or-lt-of-le (le-of-suc-le-suc b)) (λ c. times-two k i j a c)
-    where
-      go : (j ≡ k) ⊎ (j < k) → (j < k → timesIn unit (f i) + timesIn unit (f j) ≤ timesIn unit (records f k))
-          → timesIn unit (f i) + timesIn unit (f j) ≤ timesIn unit (records f (suc k))
-      go (inl e) rest =
-          let l : i < k = omega arith in rw e (omega (arith, times-next k, times-one k i l))
-      go (inr c) rest = let h = rest c in omega (arith, times-next k)
+  times-two (suc k) i j a b =
+      ⊎-elim
+      (λ e. let l : i < k = omega arith in rw e (omega (arith, times-next k, times-one k i l)))
+      (λ c. omega (arith, times-next k, times-two k i j a c))
+      (eq-or-lt-of-le (le-of-suc-le-suc b))
 
   pub times-nowhere : (k : ℕ) → ((j : ℕ) → j < k → timesIn unit (f j) ≡ 0) → timesIn unit (records f k) ≡ 0
   unfolding records
@@ -52,14 +47,11 @@ module _ (f : ℕ → List ℕ) (unit : ℕ) where
   pub times-somewhere : (k : ℕ) → 1 ≤ timesIn unit (records f k) → (j : ℕ) × ((j < k) × (1 ≤ timesIn unit (f j)))
   unfolding records
   times-somewhere zero h = absurd (omega (arith, times-none unit))
-  times-somewhere (suc k) h = go (below-or-not (timesIn unit (f k)) 1) (times-somewhere k)
-    where
-      go : (timesIn unit (f k) < 1) ⊎ (1 ≤ timesIn unit (f k))
-          → (1 ≤ timesIn unit (records f k) → (j : ℕ) × ((j < k) × (1 ≤ timesIn unit (f j))))
-          → (j : ℕ) × ((j < suc k) × (1 ≤ timesIn unit (f j)))
-      go (inr b) rest = (k, (omega arith, b))
-      go (inl b) rest =
-          let r = rest (omega (arith, times-next k)) in (r .0, (omega (arith, r .1 .0), r .1 .1))
+  times-somewhere (suc k) h =
+      ⊎-elim
+      (λ b. let r = times-somewhere k (omega (arith, times-next k)) in (r .0, (omega (arith, r .1 .0), r .1 .1)))
+      (λ b. (k, (omega arith, b)))
+      (below-or-not (timesIn unit (f k)) 1)
 
   -- at most once in each, and in no two: at most once in all
   pub times-at-most : (k : ℕ) → ((j : ℕ) → j < k → timesIn unit (f j) ≤ 1)
@@ -67,15 +59,11 @@ module _ (f : ℕ → List ℕ) (unit : ℕ) where
   unfolding records
   times-at-most zero one apart = omega (arith, times-none unit)
   times-at-most (suc k) one apart =
-      go (below-or-not (timesIn unit (f k)) 1)
-      (times-at-most k (λ j l. one j (omega arith)) (λ i j a b. apart i j a (omega arith)))
-    where
-      go : (timesIn unit (f k) < 1) ⊎ (1 ≤ timesIn unit (f k)) → timesIn unit (records f k) ≤ 1 → timesIn unit (records f (suc k)) ≤ 1
-      go (inl b) rest = omega (arith, times-next k)
-      go (inr b) rest =
-          let none = times-nowhere k (λ i l. apart i k l (omega arith) b) in
-          let here = one k (omega arith) in
-          omega (arith, times-next k)
+      let rest = times-at-most k (λ j l. one j (omega arith)) (λ i j a b. apart i j a (omega arith)) in
+      ⊎-elim
+      (λ b. omega (arith, times-next k))
+      (λ b. omega (arith, times-next k, times-nowhere k (λ i l. apart i k l (omega arith) b), one k (omega arith)))
+      (below-or-not (timesIn unit (f k)) 1)
 
 -- ---- a list of units from 1 to n with none twice has at most n
 
@@ -117,12 +105,7 @@ module _ (x : ℕ) where
     where
       go : (t : Bool) → eqb x (suc k) ≡ t → (x ≤ k → total here k ≡ 1) → total here k + cond t 1 0 ≡ 1
       go true e rest = let q = eqb-true x (suc k) e in let r = total-below k (omega arith) in omega arith
-      go false e rest =
-          let l : x ≤ k = below (below-or-not k x) in let r = rest l in omega arith
-        where
-          below : (k < x) ⊎ (x ≤ k) → x ≤ k
-          below (inl c) = absurd (eqb-false x (suc k) e (omega arith))
-          below (inr c) = c
+      go false e rest = let n = eqb-false x (suc k) e in let r = rest (omega arith) in omega arith
 
 total-times : (n : ℕ) (xs : List ℕ) → Units n xs → total (λ i. timesIn (suc i) xs) n ≡ length xs
 unfolding timesIn Units

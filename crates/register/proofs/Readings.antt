@@ -1,10 +1,10 @@
--- What the code has read, over plain values, is what the definitions say of the bytes. Assumes nothing.
+-- Each way out of the code, over plain values: what was read and tested on the way there, and what the definitions then say.
+-- Assumes nothing.
 use mathlib.Core.Path.{_≡_, sym, _∙_}
 use mathlib.Core.Bool.{Bool, true, false, not, _&&_}
 use mathlib.Core.List.{List}
-use Prim.Native.Nat.{ℕ, _+_, _*_, _≤_}
-use borrow.Author.Tests.{not-true, not-false}
-use lib.Dec.{eqb}
+use Prim.Native.Nat.{ℕ, _+_, _*_, _≤_, _<_}
+use borrow.Author.Tests.{not-true, not-false, le-leb, lt-leb, eqb-true}
 use lib.ListN.{length, replicate}
 use Rattle.trace.specs.Sweeps.{every, sweep}
 use Rattle.trace.proofs.Tests.{and-l, and-r}
@@ -17,21 +17,59 @@ use Rattle.register.specs.Fields.{unitCount, aggregateCount, lengthsAt, 
 use Rattle.register.specs.Chains.{allMembers, chainedOf, withChains}
 use Rattle.register.specs.Rules.{countsIn, wholeLength, spareAt, headerSpare, unitsSpare, headsSpare}
 use Rattle.register.specs.Plants.{kindsKnown, indicesIn, metOnce, restEnds, plantSound}
-use Rattle.register.specs.Registers.{refusedBy, acceptedAs, fieldsKnown, chainedFrom, recordsFrom}
+use Rattle.register.specs.Registers.{refusedBy, acceptedAs, lengthsRise, fieldsKnown, chainedFrom, recordsFrom, registeredOf}
 use Rattle.register.specs.Walks.{Headed, unwalked, walked}
-use Rattle.register.proofs.Soundness.{counts-in, sound-by, sound-units, sound-indices}
+use Rattle.register.proofs.Soundness.{counts-in, counts-least, counts-units, counts-aggregates, sound-by, sound-units, sound-indices}
 use Rattle.register.proofs.Walks.{walk-twice, walk-met, walk-steps}
-use Rattle.register.proofs.Verdicts.{twice-6, rest-7, chains-passed, fields-4, indices-5, records-passed}
 
--- ---- counts and records
+-- a rule whose test the code found to fail, or to hold
+failed : {t holds : Bool} → t ≡ holds → not t ≡ true → holds ≡ false
+failed {t} e f = sym e ∙ not-true t f
+
+passed : {t holds : Bool} → t ≡ holds → not t ≡ false → holds ≡ true
+passed {t} e f = sym e ∙ not-false t f
+
+-- ---- the header, refusals 1 to 3
+
+module _ (bytes : List ℕ) where
+  pub short-1 : (r : Registered) → r ≡ refusedBy 1 → length bytes < 16 → r ≡ registeredOf bytes
+  unfolding registeredOf
+  short-1 r q h = rw (q, lt-leb 16 (length bytes) h)
+
+  module _ (long : 16 ≤ length bytes) (counts : Bool) (c : counts ≡ countsIn (unitCount bytes) (aggregateCount bytes)) where
+    pub counts-2 : (r : Registered) → r ≡ refusedBy 2 → not counts ≡ true → r ≡ registeredOf bytes
+    unfolding registeredOf
+    counts-2 r q e = rw (q, le-leb 16 (length bytes) long, failed c e)
+
+    module _ (counted : not counts ≡ false) (whole : Bool) (w : whole ≡ wholeLength bytes) where
+      pub length-1 : (r : Registered) → r ≡ refusedBy 1 → not whole ≡ true → r ≡ registeredOf bytes
+      unfolding registeredOf
+      length-1 r q e = rw (q, le-leb 16 (length bytes) long, passed c counted, failed w e)
+
+      module _ (complete : not whole ≡ false) where
+        pub headed : Headed bytes
+        headed =
+            let units = unitCount bytes in
+            let aggregates = aggregateCount bytes in
+            record {
+              least = counts-least units aggregates (passed c counted);
+              units = counts-units units aggregates (passed c counted);
+              aggregates = counts-aggregates units aggregates (passed c counted);
+              whole = eqb-true _ _ (passed w complete);
+            }
+
+        module _ (rise : Bool) (l : rise ≡ lengthsRise bytes) where
+          pub lengths-3 : (r : Registered) → r ≡ refusedBy 3 → not rise ≡ true → r ≡ registeredOf bytes
+          unfolding registeredOf
+          lengths-3 r q e = rw (q, le-leb 16 (length bytes) long, passed c counted, passed w complete, failed l e)
+
+          pub header-passed : (r : Registered) → r ≡ recordsFrom bytes → not rise ≡ false → r ≡ registeredOf bytes
+          unfolding registeredOf
+          header-passed r q e = rw (q, le-leb 16 (length bytes) long, passed c counted, passed w complete, passed l e)
+
+-- ---- records
 
 module _ (bytes : List ℕ) (units aggregates : ℕ) (u : units ≡ unitCount bytes) (a : aggregates ≡ aggregateCount bytes) where
-  pub counts-read : (t : Bool) → t ≡ countsIn units aggregates → t ≡ countsIn (unitCount bytes) (aggregateCount bytes)
-  counts-read t e = e ∙ rw (u, a)
-
-  pub length-read : eqb (length bytes) (16 + 4 * units + 4 * aggregates) ≡ wholeLength bytes
-  length-read = rw (u, a)
-
   pub spares-read : (s t : Bool) → s ≡ every (spareAt bytes 18 2) units → t ≡ every (spareAt bytes (16 + 4 * units + 1) 3) aggregates
       → (s && t) ≡ (unitsSpare bytes && headsSpare bytes)
   spares-read s t p q = rw (p, q, u, a)
@@ -62,35 +100,31 @@ module _ (bytes : List ℕ) (p : Plant) (read : p ≡ fieldsOf bytes) (ready : H
     unfolding fieldsKnown
     known-is = k ∙ rw read
 
-    pub read-4 : not known ≡ true → refusedBy 4 ≡ recordsFrom bytes
-    read-4 e = fields-4 bytes (sym known-is ∙ not-true known e)
+    pub read-4 : (r : Registered) → r ≡ refusedBy 4 → not known ≡ true → r ≡ recordsFrom bytes
+    unfolding recordsFrom
+    read-4 r q e = rw (q, failed known-is e)
 
-    module _ (passed : not known ≡ false) (inside : Bool) (i : inside ≡ indicesIn p) where
-      all-known : fieldsKnown bytes ≡ true
-      all-known = sym known-is ∙ not-false known passed
-
+    module _ (right : not known ≡ false) (inside : Bool) (i : inside ≡ indicesIn p) where
       inside-is : inside ≡ indicesIn (fieldsOf bytes)
       inside-is = i ∙ rw read
 
-      pub read-5 : not inside ≡ true → refusedBy 5 ≡ recordsFrom bytes
-      read-5 e = indices-5 bytes all-known (sym inside-is ∙ not-true inside e)
+      pub read-5 : (r : Registered) → r ≡ refusedBy 5 → not inside ≡ true → r ≡ recordsFrom bytes
+      unfolding recordsFrom
+      read-5 r q e = rw (q, passed known-is right, failed inside-is e)
 
-      pub read-chains : not inside ≡ false → chainedFrom p ≡ recordsFrom bytes
-      read-chains e = rw read (records-passed bytes all-known (sym inside-is ∙ not-false inside e))
+      pub read-chains : (r : Registered) → r ≡ chainedFrom p → not inside ≡ false → r ≡ recordsFrom bytes
+      unfolding recordsFrom
+      read-chains r q e = rw (q, read, passed known-is right, passed inside-is e)
 
       counts : countsIn (p .units) (p .aggregates) ≡ true
       unfolding fieldsOf
       counts = rw read (counts-in (unitCount bytes) (aggregateCount bytes) (ready .least) (ready .units) (ready .aggregates))
 
       kinds : kindsKnown p ≡ true
-      unfolding fieldsKnown
-      kinds =
-          rw read
-          (and-r (headerSpare bytes) (kindsKnown (fieldsOf bytes))
-          (and-l (headerSpare bytes && kindsKnown (fieldsOf bytes)) (unitsSpare bytes && headsSpare bytes) all-known))
+      kinds = and-r (headerSpare bytes) (kindsKnown p) (and-l (headerSpare bytes && kindsKnown p) (unitsSpare bytes && headsSpare bytes) (passed k right))
 
       pub read-sound : not inside ≡ false → plantSound p ≡ true
-      read-sound e = sound-by p counts kinds (sym i ∙ not-false inside e)
+      read-sound e = sound-by p counts kinds (passed i e)
 
 -- ---- refusals 6 and 7
 
@@ -98,32 +132,29 @@ module _ (p : Plant) (sound : plantSound p ≡ true) (w : Walk) (e : w ≡ walke
   twice-is : w .twice ≡ not (metOnce p)
   twice-is = rw e (walk-twice p (sound-indices p sound) (sound-units p sound))
 
-  met-is : w .met ≡ chainedOf p
-  met-is = rw e (walk-met p (sound-indices p sound) (sound-units p sound))
+  pub walked-6 : (r : Registered) → r ≡ refusedBy 6 → w .twice ≡ true → r ≡ chainedFrom p
+  unfolding chainedFrom
+  walked-6 r q t = rw (q, not-true (metOnce p) (sym twice-is ∙ t))
 
-  pub walked-6 : w .twice ≡ true → refusedBy 6 ≡ chainedFrom p
-  walked-6 t = twice-6 p (not-true (metOnce p) (sym twice-is ∙ t))
-
-  module _ (one : w .twice ≡ false) (q : Plant) (marked : w .met ≡ chainedOf p → q ≡ withChains p) where
+  module _ (one : w .twice ≡ false) (whole : Plant) (marked : w .met ≡ chainedOf p → whole ≡ withChains p) where
     once : metOnce p ≡ true
     once = not-false (metOnce p) (sym twice-is ∙ one)
 
-    marked-is : q ≡ withChains p
-    marked-is = marked met-is
+    marked-is : whole ≡ withChains p
+    marked-is = marked (rw e (walk-met p (sound-indices p sound) (sound-units p sound)))
 
-    pub marked-units : q .units ≤ 64
+    pub marked-units : whole .units ≤ 64
     unfolding withChains
     marked-units = rw marked-is (sound-units p sound)
 
-    module _ (ends : Bool) (r : ends ≡ restEnds q) where
+    module _ (ends : Bool) (i : ends ≡ restEnds whole) where
       ends-is : ends ≡ restEnds (withChains p)
-      ends-is = r ∙ rw marked-is
+      ends-is = i ∙ rw marked-is
 
-      pub walked-7 : not ends ≡ true → refusedBy 7 ≡ chainedFrom p
-      walked-7 t = rest-7 p once (sym ends-is ∙ not-true ends t)
+      pub walked-7 : (r : Registered) → r ≡ refusedBy 7 → not ends ≡ true → r ≡ chainedFrom p
+      unfolding chainedFrom
+      walked-7 r q t = rw (q, once, failed ends-is t)
 
-      pub walked-accepted : not ends ≡ false → _≡_ {A = Registered} (record { answer = Accepted (w .steps); plant = q }) (chainedFrom p)
-      unfolding acceptedAs
-      walked-accepted t =
-          rw (marked-is, e, walk-steps p (sound-indices p sound) (sound-units p sound))
-          (chains-passed p once (sym ends-is ∙ not-false ends t))
+      pub walked-accepted : not ends ≡ false → _≡_ {A = Registered} (record { answer = Accepted (w .steps); plant = whole }) (chainedFrom p)
+      unfolding chainedFrom acceptedAs
+      walked-accepted t = rw (marked-is, e, walk-steps p (sound-indices p sound) (sound-units p sound), once, passed ends-is t)

@@ -1,43 +1,53 @@
 -- The answer in 01's numbers, from the equation for the whole result. Assumes nothing.
 use mathlib.Core.Path.{_≡_, refl}
-use mathlib.Core.Bool.{Bool, true, false, not}
-use mathlib.Core.List.{List, [], _∷_}
-use Prim.Native.Nat.{ℕ}
-use Rattle.trace.specs.Refusals.{Refusal, firstOf}
+use mathlib.Core.Logic.{_⊎_, inl, inr}
+use mathlib.Core.Bool.{Bool, true, false, cond, not}
+use mathlib.Core.List.{List}
+use Prim.Native.Nat.{ℕ, _<_}
+use lib.Dec.{lit<}
+use lib.ListN.{length}
+use Rattle.trace.specs.Refusals.{firstOf}
+use Rattle.trace.specs.Sweeps.{records}
+use Rattle.register.specs.declared.Answer.the-variants.{Accepted}
 use Rattle.register.specs.declared.Plant.{Plant}
 use Rattle.register.specs.declared.Registered.{Registered}
 use Rattle.register.specs.Fields.{unitCount, aggregateCount, fieldsOf}
-use Rattle.register.specs.Chains.{withChains}
+use Rattle.register.specs.Chains.{membersOf, allMembers, withChains}
 use Rattle.register.specs.Rules.{longEnough, countsIn, wholeLength}
 use Rattle.register.specs.Plants.{indicesIn, metOnce, restEnds}
-use Rattle.register.specs.Registers.{answerNumber, unless, refusedBy, acceptedAs, lengthsRise, fieldsKnown}
+use Rattle.register.specs.Registers.{answerNumber, answerVisits, unless, noPlant, refusedBy, acceptedAs, lengthsRise, fieldsKnown}
 use Rattle.register.specs.Registers.{chainedFrom, recordsFrom, registeredOf, registerRefusal, Reads}
-use Rattle.register.proofs.Accepted.{visits-counted}
 
--- one rule more in front of those that a result goes through
-unless-number : (holds : Bool) (number : ℕ) (rest : Registered) (refusals : List Refusal) → answerNumber (rest .answer) ≡ firstOf refusals
-    → answerNumber (unless holds number rest .answer) ≡ firstOf ((number, not holds) ∷ refusals)
-unfolding answerNumber refusedBy firstOf
-unless-number true number rest refusals e = e
-unless-number false number rest refusals e = refl
+-- A result whose refusal is number n, 0 where none applies: the number in 01, the visits, which are the number of units in the chains of
+-- the plant that is returned, and either it is accepted or all of it is the refusal.
+pub record Goes (r : Registered) (n : ℕ) : Type 0 where
+  pub number : answerNumber (r .answer) ≡ n
+  pub visits : answerVisits (r .answer) ≡ length (allMembers (r .plant))
+  pub settled : ((visits : ℕ) × (r .answer ≡ Accepted visits)) ⊎ ((0 < n) × (r ≡ refusedBy n))
 
-accepted-number : (p : Plant) → answerNumber (acceptedAs p .answer) ≡ firstOf []
-unfolding answerNumber acceptedAs firstOf
-accepted-number p = refl
+-- one refusal more in front
+unless-goes : (k : ℕ) → 0 < k → (holds : Bool) {rest : Registered} {n : ℕ} → Goes rest n → Goes (unless holds k rest) (cond (not holds) k n)
+unfolding answerNumber answerVisits refusedBy noPlant allMembers records
+unless-goes k l true g = g
+unless-goes k l false g = record { number = refl; visits = refl; settled = inr (l, refl) }
 
-pub register-number : (bytes : List ℕ) → answerNumber (registeredOf bytes .answer) ≡ registerRefusal bytes
-unfolding registeredOf recordsFrom chainedFrom registerRefusal
-register-number bytes =
+accepted-goes : (p : Plant) → Goes (acceptedAs p) 0
+unfolding answerNumber answerVisits acceptedAs withChains allMembers membersOf
+accepted-goes p = record { number = refl; visits = refl; settled = inl (length (allMembers p), refl) }
+
+pub register-goes : (bytes : List ℕ) → Goes (registeredOf bytes) (registerRefusal bytes)
+unfolding registeredOf recordsFrom chainedFrom registerRefusal firstOf
+register-goes bytes =
     let p = fieldsOf bytes in
-    unless-number (longEnough bytes) 1 _ _
-    (unless-number (countsIn (unitCount bytes) (aggregateCount bytes)) 2 _ _
-    (unless-number (wholeLength bytes) 1 _ _
-    (unless-number (lengthsRise bytes) 3 _ _
-    (unless-number (fieldsKnown bytes) 4 _ _
-    (unless-number (indicesIn p) 5 _ _
-    (unless-number (metOnce p) 6 _ _
-    (unless-number (restEnds (withChains p)) 7 _ _ (accepted-number p))))))))
+    unless-goes 1 (lit< tt) (longEnough bytes)
+    (unless-goes 2 (lit< tt) (countsIn (unitCount bytes) (aggregateCount bytes))
+    (unless-goes 1 (lit< tt) (wholeLength bytes)
+    (unless-goes 3 (lit< tt) (lengthsRise bytes)
+    (unless-goes 4 (lit< tt) (fieldsKnown bytes)
+    (unless-goes 5 (lit< tt) (indicesIn p)
+    (unless-goes 6 (lit< tt) (metOnce p)
+    (unless-goes 7 (lit< tt) (restEnds (withChains p)) (accepted-goes p))))))))
 
 -- what reading promises of its result
 pub reads : (bytes : List ℕ) (r : Registered) → r ≡ registeredOf bytes → Reads bytes r
-reads bytes r e = record { result = e; number = rw e (register-number bytes); visits = rw e (visits-counted bytes) }
+reads bytes r e = record { result = e; number = rw e (register-goes bytes .number); visits = rw e (register-goes bytes .visits) }

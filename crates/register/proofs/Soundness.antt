@@ -1,15 +1,15 @@
 -- What a sound plant gives at each index. Assumes nothing.
 use mathlib.Core.Path.{_≡_}
-use mathlib.Core.Bool.{true, _&&_}
+use mathlib.Core.Bool.{Bool, true, _&&_}
 use Prim.Native.Nat.{ℕ, _≤_, _<_}
 use borrow.Author.Tests.{leb-true, le-leb}
 use lib.Dec.{leb}
 use lib.ListN.{getD}
 use Rattle.trace.specs.Sweeps.{every}
 use Rattle.trace.proofs.Sweeps.{every-at}
-use Rattle.trace.proofs.Tests.{and-l, and-r, and-both}
+use Rattle.trace.proofs.Tests.{and-l, and-r}
 use Rattle.register.specs.declared.Plant.{Plant}
-use Rattle.register.specs.Rules.{countsIn, kindAt, nextAt, headAt}
+use Rattle.register.specs.Rules.{countsIn, nextAt, headAt}
 use Rattle.register.specs.Plants.{kindsKnown, indicesIn, plantSound}
 
 -- ---- counts
@@ -34,49 +34,43 @@ module _ (units aggregates : ℕ) where
 -- ---- a plant whose indices are in range
 
 module _ (p : Plant) (inside : indicesIn p ≡ true) where
+  abbrev nexts : ℕ → Bool
+  nexts = nextAt (p .units) (p .next)
+
+  abbrev heads : ℕ → Bool
+  heads = headAt (p .units) (p .heads)
+
   pub next-inside : (i : ℕ) → i < p .units → getD (p .next) i 0 ≤ p .units
   unfolding indicesIn
-  next-inside i l =
-      leb-true (getD (p .next) i 0) (p .units)
-      (every-at (nextAt (p .units) (p .next)) (p .units) (and-l (every (nextAt (p .units) (p .next)) (p .units)) (every (headAt (p .units) (p .heads)) (p .aggregates)) inside) i l)
+  next-inside i l = leb-true _ _ (every-at nexts (p .units) (and-l (every nexts (p .units)) (every heads (p .aggregates)) inside) i l)
 
-  head-test : (j : ℕ) → j < p .aggregates → headAt (p .units) (p .heads) j ≡ true
+  head-test : (j : ℕ) → j < p .aggregates → heads j ≡ true
   unfolding indicesIn
-  head-test j l =
-      every-at (headAt (p .units) (p .heads)) (p .aggregates)
-      (and-r (every (nextAt (p .units) (p .next)) (p .units)) (every (headAt (p .units) (p .heads)) (p .aggregates)) inside) j l
+  head-test j l = every-at heads (p .aggregates) (and-r (every nexts (p .units)) (every heads (p .aggregates)) inside) j l
 
-  pub head-least : (j : ℕ) → j < p .aggregates → 1 ≤ getD (p .heads) j 0
-  head-least j l =
-      let head = getD (p .heads) j 0 in leb-true 1 head (and-l (leb 1 head) (leb head (p .units)) (head-test j l))
+  module _ (j : ℕ) (l : j < p .aggregates) where
+    abbrev head : ℕ
+    head = getD (p .heads) j 0
 
-  pub head-inside : (j : ℕ) → j < p .aggregates → getD (p .heads) j 0 ≤ p .units
-  head-inside j l =
-      let head = getD (p .heads) j 0 in leb-true head (p .units) (and-r (leb 1 head) (leb head (p .units)) (head-test j l))
+    pub head-least : 1 ≤ getD (p .heads) j 0
+    head-least = leb-true 1 head (and-l (leb 1 head) (leb head (p .units)) (head-test j l))
 
-module _ (p : Plant) (known : kindsKnown p ≡ true) (i : ℕ) (l : i < p .units) where
-  kind-test : kindAt (p .kinds) i ≡ true
-  unfolding kindsKnown
-  kind-test = every-at (kindAt (p .kinds)) (p .units) known i l
-
-  pub kind-known : (1 ≤ getD (p .kinds) i 0) × (getD (p .kinds) i 0 ≤ 3)
-  kind-known =
-      let kind = getD (p .kinds) i 0 in
-      (leb-true 1 kind (and-l (leb 1 kind) (leb kind 3) kind-test), leb-true kind 3 (and-r (leb 1 kind) (leb kind 3) kind-test))
+    pub head-inside : getD (p .heads) j 0 ≤ p .units
+    head-inside = leb-true head (p .units) (and-r (leb 1 head) (leb head (p .units)) (head-test j l))
 
 -- ---- a sound plant
 
 pub sound-by : (p : Plant) → countsIn (p .units) (p .aggregates) ≡ true → kindsKnown p ≡ true → indicesIn p ≡ true → plantSound p ≡ true
 unfolding plantSound
-sound-by p c k i = and-both (countsIn (p .units) (p .aggregates)) (kindsKnown p && indicesIn p) c (and-both (kindsKnown p) (indicesIn p) k i)
+sound-by p c k i = rw (c, k, i)
 
 module _ (p : Plant) (sound : plantSound p ≡ true) where
-  pub sound-counts : countsIn (p .units) (p .aggregates) ≡ true
-  unfolding plantSound
-  sound-counts = and-l (countsIn (p .units) (p .aggregates)) (kindsKnown p && indicesIn p) sound
+  abbrev counts : Bool
+  counts = countsIn (p .units) (p .aggregates)
 
-  pub sound-least : 1 ≤ p .units
-  sound-least = counts-least (p .units) (p .aggregates) sound-counts
+  pub sound-counts : counts ≡ true
+  unfolding plantSound
+  sound-counts = and-l counts (kindsKnown p && indicesIn p) sound
 
   pub sound-units : p .units ≤ 64
   sound-units = counts-units (p .units) (p .aggregates) sound-counts
@@ -84,10 +78,6 @@ module _ (p : Plant) (sound : plantSound p ≡ true) where
   pub sound-aggregates : p .aggregates ≤ 16
   sound-aggregates = counts-aggregates (p .units) (p .aggregates) sound-counts
 
-  pub sound-kinds : kindsKnown p ≡ true
-  unfolding plantSound
-  sound-kinds = and-l (kindsKnown p) (indicesIn p) (and-r (countsIn (p .units) (p .aggregates)) (kindsKnown p && indicesIn p) sound)
-
   pub sound-indices : indicesIn p ≡ true
   unfolding plantSound
-  sound-indices = and-r (kindsKnown p) (indicesIn p) (and-r (countsIn (p .units) (p .aggregates)) (kindsKnown p && indicesIn p) sound)
+  sound-indices = and-r (kindsKnown p) (indicesIn p) (and-r counts (kindsKnown p && indicesIn p) sound)

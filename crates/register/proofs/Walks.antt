@@ -16,10 +16,11 @@ use Rattle.register.specs.declared.Plant.{Plant}
 use Rattle.register.specs.declared.visits.Walk.{Walk}
 use Rattle.register.specs.Chains.{chain, membersOf, allMembers, timesIn, metAt, chainedOf}
 use Rattle.register.specs.Rules.{onceAt}
-use Rattle.register.specs.Plants.{indicesIn, metOnce}
+use Rattle.register.specs.Plants.{indicesIn, metOnce, plantSound}
 use Rattle.register.specs.Walks.{unwalked, stepTo, walked}
-use Rattle.register.proofs.Soundness.{next-inside, head-inside}
-use Rattle.register.proofs.Chains.{chain-end, chain-out, chain-more, length-chain, times-append, times-same, times-other, times-none, Units, units-none, units-append, units-in}
+use Rattle.register.proofs.Soundness.{next-inside, head-inside, sound-units, sound-aggregates, sound-indices}
+use Rattle.register.proofs.Chains.{chain-end, chain-out, chain-more, length-chain, times-append, times-same, times-other, times-none}
+use Rattle.register.proofs.Chains.{Units, units-none, units-append, units-in}
 
 same-or-not : (a b : ℕ) → (a ≡ b) ⊎ (a ≡ b → ⊥)
 same-or-not a b = go (eqb a b) refl
@@ -45,28 +46,28 @@ walked-steps w (suc i ∷ xs) = let h = walked-steps (stepTo w i) xs in omega ar
 -- What is left of the chain, walked from here, ends where the whole chain does.
 pub record Along (p : Plant) (before : Walk) (head : ℕ) (w : Walk) (unit left : ℕ) : Type 0 where
   pub turns : left ≤ 65
+  pub small : p .units ≤ 64
   pub place : unit ≤ p .units
   pub few : w .steps + left ≤ before .steps + 65
   pub whole : walked w (chain (p .next) left unit) ≡ walked before (chain (p .next) 65 head)
 
 module _ (p : Plant) (before : Walk) (head : ℕ) where
-  pub along-none : head ≤ p .units → Along p before head before head 65
-  along-none h = record { turns = omega arith; place = h; few = omega arith; whole = refl }
+  pub along-none : plantSound p ≡ true → head ≤ p .units → Along p before head before head 65
+  along-none sound h = record { turns = omega arith; small = sound-units p sound; place = h; few = omega arith; whole = refl }
 
-  step : indicesIn p ≡ true → (w : Walk) (unit left : ℕ) → 0 < left → 0 < unit → Along p before head w unit left
-      → Along p before head (stepTo w (unit - 1)) (getD (p .next) (unit - 1) 0) (left - 1)
+  pub along-more : plantSound p ≡ true → (w v : Walk) (unit left i : ℕ) → 0 < left → (unit ≡ 0 → ⊥) → Along p before head w unit left
+      → i ≡ unit - 1 → v ≡ stepTo w i → Along p before head v (getD (p .next) i 0) (left - 1)
   unfolding walked stepTo
-  step inside w unit left l h a =
+  along-more sound w v unit left i l n a e q =
+      let h : 0 < unit = omega arith in
+      rw (q, e)
       record {
         turns = omega (arith, a .turns);
-        place = next-inside p inside (unit - 1) (omega (arith, a .place));
+        small = a .small;
+        place = next-inside p (sound-indices p sound) (unit - 1) (omega (arith, a .place));
         few = omega (arith, a .few);
         whole = ap (walked w) (sym (chain-more (p .next) left unit l h)) ∙ a .whole;
       }
-
-  pub along-more : indicesIn p ≡ true → (w v : Walk) (unit left i : ℕ) → 0 < left → 0 < unit → Along p before head w unit left
-      → i ≡ unit - 1 → v ≡ stepTo w i → Along p before head v (getD (p .next) i 0) (left - 1)
-  along-more inside w v unit left i l h a e q = rw (q, e) (step inside w unit left l h a)
 
   -- the chain has ended, or its steps are used up
   pub along-end : (w : Walk) (unit left : ℕ) → Along p before head w unit left → unit ≡ 0 → w ≡ walked before (chain (p .next) 65 head)
@@ -84,13 +85,20 @@ module _ (p : Plant) (before : Walk) (head : ℕ) where
 
 pub record Across (p : Plant) (w : Walk) (j : ℕ) : Type 0 where
   pub turns : j ≤ p .aggregates
+  pub most : p .aggregates ≤ 16
   pub few : w .steps ≤ 65 * j
   pub whole : w ≡ walked unwalked (records (membersOf p) j)
 
 module _ (p : Plant) where
-  pub across-none : Across p unwalked 0
+  pub across-none : plantSound p ≡ true → Across p unwalked 0
   unfolding walked
-  across-none = record { turns = omega arith; few = omega arith; whole = ap (walked unwalked) (sym (records-none (membersOf p))) }
+  across-none sound =
+      record {
+        turns = omega arith;
+        most = sound-aggregates p sound;
+        few = omega arith;
+        whole = ap (walked unwalked) (sym (records-none (membersOf p)));
+      }
 
   pub across-more : (w v : Walk) (j : ℕ) → j < p .aggregates → Across p w j
       → v ≡ walked w (chain (p .next) 65 (getD (p .heads) j 0)) → Across p v (j + 1)
@@ -98,6 +106,7 @@ module _ (p : Plant) where
   across-more w v j l a e =
       record {
         turns = omega arith;
+        most = a .most;
         few =
             let s = walked-steps w (chain (p .next) 65 (getD (p .heads) j 0)) in
             let c = length-chain (p .next) 65 (getD (p .heads) j 0) in
@@ -257,7 +266,7 @@ module _ (p : Plant) (inside : indicesIn p ≡ true) where
         recorded .met i l
         ∙ sym (getD-sweep (metAt p) (p .units) (replicate 64 false) false i h (omega (arith, length-replicate 64 false)))
     met-at i l (inr h) =
-        let past : timesIn (suc i) (allMembers p) < 1 = below (timesIn (suc i) (allMembers p)) (λ o. units-in (p .units) (allMembers p) all-units (suc i) o) h in
+        let past = below (timesIn (suc i) (allMembers p)) (units-in (p .units) (allMembers p) all-units (suc i)) h in
         recorded .met i l
         ∙ lt-leb 1 (timesIn (suc i) (allMembers p)) past
         ∙ sym (getD-sweep-past (metAt p) (p .units) (replicate 64 false) false i h ∙ getD-replicate 64 i false false l)

@@ -6,38 +6,34 @@ ghost use Rattle.register.specs.Fields.{unitCount, aggregateCount, lengt
 ghost use Rattle.register.specs.Rules.{countsIn, wholeLength, rising};
 ghost use Rattle.register.specs.Registers.{lengthsRise};
 use crate::Lengths;
-use crate::both;
-use crate::wide;
+use crate::byte_at;
 
 pub(crate) fn counts_in(units: usize, aggregates: usize) -> bool
     ensures { λ r. ⌜ r ≡ countsIn units aggregates ⌝ }
 {
-    both(both(1 <= units, units <= 64), aggregates <= 16)
+    (1 <= units) & (units <= 64) & (aggregates <= 16)
 }
 
 pub(crate) fn counts_known(bytes: &[u8]) -> bool
     requires { ⌜ 16 ≤ length (now bytes) ⌝ }
     ensures { λ r. ⌜ r ≡ countsIn (unitCount (now (bytes .entry))) (aggregateCount (now (bytes .entry))) ⌝ }
 {
-    counts_in(wide(bytes[0]), wide(bytes[1]))
+    counts_in(byte_at(bytes, 0), byte_at(bytes, 1))
 }
 
 pub(crate) fn whole_length(bytes: &[u8]) -> bool
     requires { ⌜ 16 ≤ length (now bytes) ⌝ }
     ensures { λ r. ⌜ r ≡ wholeLength (now (bytes .entry)) ⌝ }
 {
-    let units = wide(bytes[0]);
-    let aggregates = wide(bytes[1]);
+    let units = byte_at(bytes, 0);
+    let aggregates = byte_at(bytes, 1);
     bytes.len() == 16 + 4 * units + 4 * aggregates
 }
 
 fn rises(l: Lengths) -> bool
     ensures { λ r. ⌜ r ≡ rising l ⌝ }
 {
-    both(
-        2 <= l.not_responding,
-        both(l.not_responding < l.pending, l.pending < l.declaration),
-    )
+    (2 <= l.not_responding) & ((l.not_responding < l.pending) & (l.pending < l.declaration))
 }
 
 pub(crate) fn lengths_at(bytes: &[u8], at: usize) -> Lengths
@@ -55,5 +51,5 @@ pub(crate) fn lengths_rise(bytes: &[u8]) -> bool
     requires { ⌜ 16 ≤ length (now bytes) ⌝ }
     ensures { λ r. ⌜ r ≡ lengthsRise (now (bytes .entry)) ⌝ }
 {
-    both(rises(lengths_at(bytes, 2)), rises(lengths_at(bytes, 5)))
+    rises(lengths_at(bytes, 2)) & rises(lengths_at(bytes, 5))
 }

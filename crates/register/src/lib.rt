@@ -7,9 +7,11 @@ mod visits;
 
 pub use plants::plant_sound;
 ghost use mathlib.Core.Path.{_≡_};
-ghost use mathlib.Core.Bool.{true, _&&_, _||_};
+ghost use mathlib.Core.Bool.{true};
 ghost use Prim.Native.Nat.{_<_};
+ghost use lib.ListN.{length};
 ghost use Rattle.register.specs.Chains.{chainedOf, withChains};
+ghost use Rattle.register.specs.Fields.{byteAt};
 ghost use Rattle.register.specs.Plants.{plantSound};
 ghost use Rattle.register.specs.Registers.{answerNumber, answerVisits, noPlant, refusedBy, chainedFrom, recordsFrom, Reads};
 ghost use Rattle.register.specs.Walks.{Headed};
@@ -67,22 +69,18 @@ pub struct Registered {
     pub plant: Plant,
 }
 
-pub(crate) fn both(a: bool, b: bool) -> bool
-    ensures { λ r. ⌜ r ≡ (a && b) ⌝ }
-{
-    a & b
-}
-
-pub(crate) fn either(a: bool, b: bool) -> bool
-    ensures { λ r. ⌜ r ≡ (a || b) ⌝ }
-{
-    a | b
-}
-
 pub(crate) fn wide(b: u8) -> usize
     ensures { λ r. ⌜ (r ≡ b) × (r < 256) ⌝ }
 {
     b as usize
+}
+
+// The byte at `at`.
+pub(crate) fn byte_at(bytes: &[u8], at: usize) -> usize
+    requires { ⌜ at < length (now bytes) ⌝ }
+    ensures { λ r. ⌜ (r ≡ byteAt (now (bytes .entry)) at) × (r < 256) ⌝ }
+{
+    wide(bytes[at])
 }
 
 // A plant of zeros.

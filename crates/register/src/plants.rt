@@ -7,15 +7,13 @@ ghost use Rattle.trace.specs.Sweeps.{every};
 ghost use Rattle.register.specs.Rules.{kindKnown, nextAt, headAt};
 ghost use Rattle.register.specs.Plants.{kindsKnown, indicesIn, restEnds, plantSound};
 use crate::Plant;
-use crate::both;
-use crate::either;
 use crate::header;
 use crate::wide;
 
 fn known_kind(kind: u8) -> bool
     ensures { λ r. ⌜ r ≡ kindKnown kind ⌝ }
 {
-    both(1 <= kind, kind <= 3)
+    (1 <= kind) & (kind <= 3)
 }
 
 pub(crate) fn known_kinds(plant: Plant) -> bool
@@ -26,7 +24,7 @@ pub(crate) fn known_kinds(plant: Plant) -> bool
     let mut ok = true;
     let mut i = 0;
     while i < count {
-        ok = both(ok, known_kind(plant.kinds[i]));
+        ok &= known_kind(plant.kinds[i]);
         i += 1;
     }
     ok
@@ -46,7 +44,7 @@ fn nexts_in(plant: Plant) -> bool
     let mut ok = true;
     let mut i = 0;
     while i < units {
-        ok = both(ok, next_in(plant.next[i], units));
+        ok &= next_in(plant.next[i], units);
         i += 1;
     }
     ok
@@ -55,7 +53,7 @@ fn nexts_in(plant: Plant) -> bool
 fn head_in(head: u8, units: usize) -> bool
     ensures { λ r. ⌜ r ≡ (leb 1 head && leb head units) ⌝ }
 {
-    both(1 <= head, next_in(head, units))
+    (1 <= head) & next_in(head, units)
 }
 
 fn heads_in(plant: Plant) -> bool
@@ -66,7 +64,7 @@ fn heads_in(plant: Plant) -> bool
     let mut ok = true;
     let mut j = 0;
     while j < count {
-        ok = both(ok, head_in(plant.heads[j], plant.units));
+        ok &= head_in(plant.heads[j], plant.units);
         j += 1;
     }
     ok
@@ -76,7 +74,7 @@ pub(crate) fn indices_in(plant: Plant) -> bool
     requires { ⌜ (plant .units ≤ 64) × (plant .aggregates ≤ 16) ⌝ }
     ensures { λ r. ⌜ r ≡ indicesIn plant ⌝ }
 {
-    both(nexts_in(plant), heads_in(plant))
+    nexts_in(plant) & heads_in(plant)
 }
 
 // Every unit that no chain met has next 0.
@@ -88,7 +86,7 @@ pub(crate) fn rest_ends(plant: Plant) -> bool
     let mut ok = true;
     let mut i = 0;
     while i < count {
-        ok = both(ok, either(plant.chained[i], plant.next[i] == 0));
+        ok &= plant.chained[i] | (plant.next[i] == 0);
         i += 1;
     }
     ok
@@ -100,7 +98,7 @@ pub fn plant_sound(plant: Plant) -> bool
 {
     let counts = header::counts_in(plant.units, plant.aggregates);
     if counts {
-        both(known_kinds(plant), indices_in(plant))
+        known_kinds(plant) & indices_in(plant)
     } else {
         false
     }

@@ -9,10 +9,9 @@ ghost use Rattle.register.specs.Rules.{zeroAt, spareAt, headerSpare, uni
 ghost use Rattle.register.specs.Plants.{kindsKnown};
 ghost use Rattle.register.specs.Walks.{Headed};
 use crate::Plant;
-use crate::both;
+use crate::byte_at;
 use crate::header;
 use crate::plants;
-use crate::wide;
 
 // One byte of each unit record, from `at` on in the first.
 fn unit_fields(bytes: &[u8], at: usize, count: usize) -> [u8; 64]
@@ -46,8 +45,8 @@ pub(crate) fn read_fields(bytes: &[u8]) -> Plant
     requires { ⌜ Headed (now bytes) ⌝ }
     ensures { λ r. ⌜ r ≡ fieldsOf (now (bytes .entry)) ⌝ }
 {
-    let units = wide(bytes[0]);
-    let aggregates = wide(bytes[1]);
+    let units = byte_at(bytes, 0);
+    let aggregates = byte_at(bytes, 1);
     let small = header::lengths_at(bytes, 2);
     let large = header::lengths_at(bytes, 5);
     let kinds = unit_fields(bytes, 16, units);
@@ -73,7 +72,7 @@ fn zeros(bytes: &[u8], at: usize, count: usize) -> bool
     let mut ok = true;
     let mut k = 0;
     while k < count {
-        ok = both(ok, bytes[at + k] == 0);
+        ok &= bytes[at + k] == 0;
         k += 1;
     }
     ok
@@ -87,7 +86,7 @@ fn spares(bytes: &[u8], at: usize, size: usize, count: usize) -> bool
     let mut ok = true;
     let mut i = 0;
     while i < count {
-        ok = both(ok, zeros(bytes, at + 4 * i, size));
+        ok &= zeros(bytes, at + 4 * i, size);
         i += 1;
     }
     ok
@@ -98,12 +97,9 @@ fn spares_zero(bytes: &[u8]) -> bool
     requires { ⌜ Headed (now bytes) ⌝ }
     ensures { λ r. ⌜ r ≡ (unitsSpare (now (bytes .entry)) && headsSpare (now (bytes .entry))) ⌝ }
 {
-    let units = wide(bytes[0]);
-    let aggregates = wide(bytes[1]);
-    both(
-        spares(bytes, 18, 2, units),
-        spares(bytes, 16 + 4 * units + 1, 3, aggregates),
-    )
+    let units = byte_at(bytes, 0);
+    let aggregates = byte_at(bytes, 1);
+    spares(bytes, 18, 2, units) & spares(bytes, 16 + 4 * units + 1, 3, aggregates)
 }
 
 pub(crate) fn fields_known(bytes: &[u8], plant: Plant) -> bool
@@ -111,6 +107,6 @@ pub(crate) fn fields_known(bytes: &[u8], plant: Plant) -> bool
     requires { ⌜ plant .units ≤ 64 ⌝ }
     ensures { λ r. ⌜ r ≡ ((headerSpare (now (bytes .entry)) && kindsKnown plant) && (unitsSpare (now (bytes .entry)) && headsSpare (now (bytes .entry)))) ⌝ }
 {
-    let first = both(zeros(bytes, 8, 8), plants::known_kinds(plant));
-    both(first, spares_zero(bytes))
+    let first = zeros(bytes, 8, 8) & plants::known_kinds(plant);
+    first & spares_zero(bytes)
 }

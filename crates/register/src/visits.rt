@@ -6,7 +6,6 @@ ghost use Rattle.register.specs.Chains.{chain, allMembers};
 ghost use Rattle.register.specs.Plants.{plantSound};
 ghost use Rattle.register.specs.Walks.{unwalked, stepTo, walked};
 use crate::Plant;
-use crate::either;
 use crate::wide;
 
 // Who was met so far, the steps taken, and whether a step met a unit again.
@@ -21,7 +20,7 @@ fn step_to(walk: Walk, i: usize) -> Walk
     ensures { λ r. ⌜ r ≡ stepTo walk i ⌝ }
 {
     let mut met = walk.met;
-    let twice = either(walk.twice, met[i]);
+    let twice = walk.twice | met[i];
     met[i] = true;
     Walk {
         met,

@@ -1,6 +1,6 @@
 -- Lists of calls, whatever a call is: a law for each call gives one for every list. Assumes nothing.
 use mathlib.Core.Path.{_≡_, refl, sym, ap, ap₂, _∙_, subst}
-use mathlib.Core.Logic.{_⊎_, inl, inr}
+use mathlib.Core.Logic.{_⊎_, inl, inr, ⊎-elim}
 use mathlib.Core.Bool.{Bool, true, false}
 use mathlib.Core.List.{List, [], _∷_, _++_, nil≢cons, head-eq-of-cons-eq, tail-eq-of-cons-eq}
 use Rattle.trace.specs.Lists.{fold, outcomes, Alike, none, both, left, right, sights, Since}
@@ -105,11 +105,7 @@ module _ {H C : Type 0} {next : H → C → H} {Event Undoes : H → C → Type 
       go (inr p) = at-front (laws .only h c (p .0)) (p .1)
 
   pub test-since : (calls : List C) (h : H) → ¬ (test h ≡ true) → test (fold next h calls) ≡ true → Since next Event Undoes h calls
-  test-since calls h n t = go (since-or calls h t)
-    where
-      go : Since next Event Undoes h calls ⊎ ((test h ≡ true) × Lasts h calls) → Since next Event Undoes h calls
-      go (inl s) = s
-      go (inr p) = absurd (n (p .0))
+  test-since calls h n t = ⊎-elim (λ s. s) (λ p. absurd (n (p .0))) (since-or calls h t)
 
   -- the same laws of the earliest event, the one that finds the test not set
   pub earliest : ((h : H) (c : C) → Event h c → ¬ Undoes h c) → SetAndCleared next (λ h c. Event h c × (test h ≡ false)) Undoes test

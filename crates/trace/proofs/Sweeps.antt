@@ -1,6 +1,6 @@
 -- Where a loop starts and what one turn adds, with `k + 1` as the code has it; and what holds at an index. Assumes nothing.
 use mathlib.Core.Path.{_≡_, refl, ap, ap₂, _∙_}
-use mathlib.Core.Logic.{_⊎_, inl, inr}
+use mathlib.Core.Logic.{_⊎_, inl, inr, ⊎-elim}
 use mathlib.Core.Bool.{Bool, true, false, cond, _&&_}
 use mathlib.Core.List.{List, [], _++_, append-assoc, append-nil}
 use Prim.Native.Nat.{ℕ, zero, suc, _+_, _*_, _≤_, _<_}
@@ -9,10 +9,12 @@ use native.Mathlib.Numerals.{add-one}
 use native.Mathlib.Omega.{arith}
 use borrow.Author.Tests.{ltb-true, ltb-false, lt-ltb, le-ltb, eqb-true, eqb-false, eq-eqb, ne-eqb}
 use lib.Dec.{ltb, eqb}
-use lib.ListN.{length, getD, set, take, drop, replicate, length-replicate, getD-replicate, length-set, length-append, length-take, length-drop, drop-of-length-le, List·getD-eq-default}
+use lib.ListN.{length, getD, set, take, drop, replicate, length-replicate, getD-replicate, length-set, length-append, length-take, length-drop}
+use lib.ListN.{drop-of-length-le, List·getD-eq-default}
 use lib.Seq.{getD-set-same, getD-set-other, set-out, take-length, take-all, take-at, take-append-le, drop-at, drop-append-le, drop-drop}
 use Rattle.trace.specs.Sweeps.{every, sweep, records, written}
 use Rattle.trace.specs.Lists.{updated, below}
+use Rattle.trace.proofs.Tests.{and-l, and-r}
 
 pub below-or-not : (a b : ℕ) → (a < b) ⊎ (b ≤ a)
 below-or-not a b = go (ltb a b) refl
@@ -38,14 +40,8 @@ module _ (f : ℕ → Bool) where
   pub every-at : (k : ℕ) → every f k ≡ true → (i : ℕ) → i < k → f i ≡ true
   unfolding every
   every-at zero e i l = absurd (omega arith)
-  every-at (suc k) e i l = go (every f k) (f k) refl refl e (eq-or-lt-of-le (le-of-suc-le-suc l)) (every-at k)
-    where
-      go : (a b : Bool) → every f k ≡ a → f k ≡ b → (a && b) ≡ true → (i ≡ k) ⊎ (i < k)
-          → (every f k ≡ true → (j : ℕ) → j < k → f j ≡ true) → f i ≡ true
-      go true true p q h (inl s) ih = ap f s ∙ q
-      go true true p q h (inr s) ih = ih p i s
-      go true false p q h s ih = absurd (let z : _≡_ {A = ℕ} 0 1 = cc in omega arith)
-      go false b p q h s ih = absurd (let z : _≡_ {A = ℕ} 0 1 = cc in omega arith)
+  every-at (suc k) e i l =
+      ⊎-elim (λ s. rw s (and-r (every f k) (f k) e)) (λ s. every-at k (and-l (every f k) (f k) e) i s) (eq-or-lt-of-le (le-of-suc-le-suc l))
 
   -- a test that fails at one index fails
   pub every-fails : (k i : ℕ) → i < k → f i ≡ false → every f k ≡ false
@@ -88,23 +84,26 @@ module _ {A : Type 0} (f : ℕ → A) where
   unfolding sweep
   sweep-holds P zero xs d i l p q = absurd (omega arith)
   sweep-holds P (suc k) xs d i l p q =
-      go (eq-or-lt-of-le (le-of-suc-le-suc l)) (below-or-not k (length (sweep f k xs))) (λ b. sweep-holds P k xs d i b p q)
-    where
-      go : (i ≡ k) ⊎ (i < k) → (k < length (sweep f k xs)) ⊎ (length (sweep f k xs) ≤ k) → (i < k → P (getD (sweep f k xs) i d))
-          → P (getD (set (sweep f k xs) k (f k)) i d)
-      go (inl e) (inl s) ih = rw (e, getD-set-same (sweep f k xs) k (f k) d s) (rw e at p)
-      go (inl e) (inr s) ih = rw (e, set-out (sweep f k xs) k (f k) s, List·getD-eq-default (sweep f k xs) d s) q
-      go (inr b) s ih = let n : i ≡ k → ⊥ = (λ (e : i ≡ k). omega arith) in rw (getD-set-other (sweep f k xs) k i (f k) d n) (ih b)
+      let old = sweep f k xs in
+      ⊎-elim
+      (λ e. rw e
+      (⊎-elim
+      (λ s. rw (getD-set-same old k (f k) d s) (rw e at p))
+      (λ s. rw (set-out old k (f k) s, List·getD-eq-default old d s) q)
+      (below-or-not k (length old))))
+      (λ b. let n : i ≡ k → ⊥ = (λ (e : i ≡ k). omega arith) in rw (getD-set-other old k i (f k) d n) (sweep-holds P k xs d i b p q))
+      (eq-or-lt-of-le (le-of-suc-le-suc l))
 
   -- within the list, it is the new entry
   pub getD-sweep : (k : ℕ) (xs : List A) (d : A) (i : ℕ) → i < k → k ≤ length xs → getD (sweep f k xs) i d ≡ f i
   unfolding sweep
   getD-sweep zero xs d i l h = absurd (omega arith)
-  getD-sweep (suc k) xs d i l h = go (eq-or-lt-of-le (le-of-suc-le-suc l)) (λ b. getD-sweep k xs d i b (omega arith))
-    where
-      go : (i ≡ k) ⊎ (i < k) → (i < k → getD (sweep f k xs) i d ≡ f i) → getD (set (sweep f k xs) k (f k)) i d ≡ f i
-      go (inl e) ih = rw e (getD-set-same (sweep f k xs) k (f k) d (omega (arith, length-sweep k xs)))
-      go (inr b) ih = let n : i ≡ k → ⊥ = (λ (e : i ≡ k). omega arith) in getD-set-other (sweep f k xs) k i (f k) d n ∙ ih b
+  getD-sweep (suc k) xs d i l h =
+      let old = sweep f k xs in
+      ⊎-elim
+      (λ e. rw e (getD-set-same old k (f k) d (omega (arith, length-sweep k xs))))
+      (λ b. let n : i ≡ k → ⊥ = (λ (e : i ≡ k). omega arith) in getD-set-other old k i (f k) d n ∙ getD-sweep k xs d i b (omega arith))
+      (eq-or-lt-of-le (le-of-suc-le-suc l))
 
   -- and from k on, it is the old one
   pub getD-sweep-past : (k : ℕ) (xs : List A) (d : A) (i : ℕ) → k ≤ i → getD (sweep f k xs) i d ≡ getD xs i d
@@ -130,11 +129,8 @@ module _ {A : Type 0} where
   below-outside k i f g l = rw (le-ltb i k l)
 
   pub sweep-below : (f : ℕ → A) (k : ℕ) (xs : List A) (d : A) → k ≤ length xs → (i : ℕ) → getD (sweep f k xs) i d ≡ below k f (λ j. getD xs j d) i
-  sweep-below f k xs d h i = go (below-or-not i k)
-    where
-      go : (i < k) ⊎ (k ≤ i) → getD (sweep f k xs) i d ≡ below k f (λ j. getD xs j d) i
-      go (inl l) = rw (lt-ltb i k l) (getD-sweep f k xs d i l h)
-      go (inr l) = rw (le-ltb i k l) (getD-sweep-past f k xs d i l)
+  sweep-below f k xs d h i =
+      ⊎-elim (λ l. rw (lt-ltb i k l) (getD-sweep f k xs d i l h)) (λ l. rw (le-ltb i k l) (getD-sweep-past f k xs d i l)) (below-or-not i k)
 
   pub set-updated : (xs : List A) (i : ℕ) (a d : A) → i < length xs → (j : ℕ) → getD (set xs i a) j d ≡ updated i a (λ k. getD xs k d) j
   set-updated xs i a d h j = go (eqb j i) refl
@@ -145,11 +141,8 @@ module _ {A : Type 0} where
 
   -- one value everywhere, beyond the end too
   pub replicate-same : (k : ℕ) (a : A) (i : ℕ) → getD (replicate k a) i a ≡ a
-  replicate-same k a i = go (below-or-not i k)
-    where
-      go : (i < k) ⊎ (k ≤ i) → getD (replicate k a) i a ≡ a
-      go (inl l) = getD-replicate k i a a l
-      go (inr l) = List·getD-eq-default (replicate k a) a (rw (length-replicate k a) l)
+  replicate-same k a i =
+      ⊎-elim (getD-replicate k i a a) (λ l. List·getD-eq-default (replicate k a) a (rw (length-replicate k a) l)) (below-or-not i k)
 
 -- ---- records
 
@@ -176,11 +169,11 @@ records-same f g (suc k) h = ap₂ (_++_ {A = ℕ}) (records-same f g k (λ i l.
 pub records-rise : (f : ℕ → List ℕ) (i k : ℕ) → i ≤ k → length (records f i) ≤ length (records f k)
 unfolding records
 records-rise f i zero h = let e : i ≡ 0 = omega arith in rw e (omega arith)
-records-rise f i (suc k) h = go (below-or-not k i) (records-rise f i k)
-  where
-    go : (k < i) ⊎ (i ≤ k) → (i ≤ k → length (records f i) ≤ length (records f k)) → length (records f i) ≤ length (records f k ++ f k)
-    go (inl l) shorter = let e : i ≡ suc k = omega arith in rw e (omega arith)
-    go (inr l) shorter = rw length-append (omega (arith, shorter l))
+records-rise f i (suc k) h =
+    ⊎-elim
+    (λ (l : k < i). let e : i ≡ suc k = omega arith in rw e (omega arith))
+    (λ (l : i ≤ k). rw length-append (omega (arith, records-rise f i k l)))
+    (below-or-not k i)
 
 pub records-at-most : (f : ℕ → List ℕ) (most k : ℕ) → ((i : ℕ) → i < k → length (f i) ≤ most) → length (records f k) ≤ most * k
 unfolding records

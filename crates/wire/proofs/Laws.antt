@@ -76,6 +76,11 @@ four s at h =
     let d = next 0 s (at + 3) (at + 4) (omega arith) (omega arith) in
     omega (arith, a, b, c, d, none s (at + 4))
 
+-- and as two halves
+pub halves : (s : List ℕ) (at low high : ℕ) → at + 4 ≤ length s → low ≡ getD s at 0 + getD s (at + 1) 0 * 256
+    → high ≡ getD s (at + 2) 0 + getD s (at + 2 + 1) 0 * 256 → low + high * 65536 ≡ wordAt s at
+halves s at low high h l u = let e : at + 2 + 1 ≡ at + 3 = omega arith in omega (arith, four s at h, rw e at u)
+
 -- four stores
 pub four-stores : (s : List ℕ) (at a b c d : ℕ) → at + 4 ≤ length s
     → set (set (set (set s at a) (at + 1) b) (at + 2) c) (at + 3) d ≡ putAt s at (a ∷ b ∷ c ∷ d ∷ [])
@@ -87,14 +92,17 @@ four-stores s at a b c d h =
     rw (third, second, add-one at)
     (sets-eq bytes s at h ∙ append-assoc (take at s) bytes (drop (at + 4) s))
 
-pub stores : (s : List ℕ) (at n : ℕ) → at + 4 ≤ length s
-    → set (set (set (set s at (n % 256)) (at + 1) (n / 256 % 256)) (at + 2) (n / 65536 % 256)) (at + 3) (n / 16777216 % 256)
-    ≡ putAt s at (bytesOf 4 n)
+pub four-bytes : (s t : List ℕ) (at n : ℕ) → t ≡ putAt s at (n % 256 ∷ n / 256 % 256 ∷ n / 65536 % 256 ∷ n / 16777216 % 256 ∷ [])
+    → t ≡ putAt s at (bytesOf 4 n)
 unfolding bytesOf
-stores s at n h =
+four-bytes s t at n e =
     let second : n / 65536 ≡ n / 256 / 256 = omega arith in
     let third : n / 16777216 ≡ n / 256 / 256 / 256 = omega arith in
-    rw (second, third) (four-stores s at (n % 256) (n / 256 % 256) (n / 256 / 256 % 256) (n / 256 / 256 / 256 % 256) h)
+    rw (second, third) at e
+
+pub whole-bytes : (s t : List ℕ) (at n : ℕ) (z : ℤ) → SFits w32 z → n ≡ ofZ w32 (toZ w32 (ofZ w32 z))
+    → t ≡ putAt s at (bytesOf 4 n) → t ≡ putAt s at (bytesOf 4 (ofZ w32 z))
+whole-bytes s t at n z f e q = rw (e, toZ-ofZ w32 z f) at q
 
 -- what is written behind what was written is written with it
 pub put-put : (s : List ℕ) (at next : ℕ) (xs ys : List ℕ) → at + length xs ≡ next → next + length ys ≤ length s

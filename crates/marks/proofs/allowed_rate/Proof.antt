@@ -1,21 +1,17 @@
 -- `marks::allowed_rate` meets its contract. Assumes nothing.
 use borrow.Author.Needs.{needs}
 use native.Mathlib.Omega.{arith}
-use mathlib.Core.Path.{_≡_, _∙_}
+use mathlib.Core.Path.{_≡_}
 use mir.Syntax.{w64}
 use mir.Val.{toZ, ofZ}
-use Rattle.signed.proofs.Sizes.{held32, held64}
 use Rattle.telemetry.specs.Kilowatts.{kilowattsOf}
 use Rattle.telemetry.proofs.Floats.{kilowatts-size}
+use Rattle.marks.proofs.Held.{result32, result64}
 use Rattle.marks.proofs.allowed_rate.Statement.{statement}
 use Rattle.marks.proofs.allowed_rate.Tie as tie
 
 wide-is : (c : tie.After-widened) → toZ w64 (ofZ w64 (c .widened .result)) ≡ kilowattsOf (c .before .before .args .scada)
-wide-is c =
-    held64 (c .widened .result) (c .widened .ok)
-    ∙ c .widened .ensures
-    ∙ held32 (c .before .kilowatts .result) (c .before .kilowatts .ok)
-    ∙ c .before .kilowatts .ensures
+wide-is c = cc (result32 (c .before .kilowatts), result64 (c .widened))
 
 kilowatts-requires : tie.Need-kilowatts-requires
 kilowatts-requires c κs = search needs

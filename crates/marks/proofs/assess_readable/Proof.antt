@@ -6,6 +6,12 @@ use Rattle.marks.specs.Assessments.{readableAssessment}
 use Rattle.marks.proofs.assess_readable.Statement.{statement}
 use Rattle.marks.proofs.assess_readable.Tie as tie
 
+abbrev start : tie.After-is-known → tie.Start
+start c = c .before .before .before
+
+abbrev tested : tie.After-judge → tie.After-is-known
+tested c = c .before .before .before
+
 unassessed-requires : tie.Need-unassessed-requires
 unassessed-requires c κs = search needs
 
@@ -20,18 +26,24 @@ unit-basis-requires : tie.Need-unit-basis-requires
 unit-basis-requires c κs = search needs
 
 judge-requires : tie.Need-judge-requires
-judge-requires c κs = rw (c .unit-basis .ensures) (unit-small (c .before .before .before .before .before .args .kind) (c .before .before .before .before .before .args .f) (c .before .before .before .before .before .args .k) (c .before .before .before .before .before .pre .0) (c .before .before .before .before .before .pre .1))
+judge-requires c κs =
+    let s = start (c .before .before) in
+    rw (c .unit-basis .ensures) (unit-small _ _ _ (s .pre .0) (s .pre .1))
 
 returns-2 : tie.Need-returns-2
 unfolding readableAssessment
-returns-2 c = rw (c .before .before .before .before .if1 .left, sym (c .before .before .before .is-known .ensures) ∙ c .before .before .if2 .taken) (cc)
+returns-2 c =
+    let known = tested c in
+    rw (known .before .if1 .left, sym (known .is-known .ensures) ∙ c .before .before .if2 .taken) (cc)
 
 unassessed-requires-2 : tie.Need-unassessed-requires-2
 unassessed-requires-2 c κs = search needs
 
 returns-3 : tie.Need-returns-3
 unfolding readableAssessment
-returns-3 c = rw (c .before .before .before .if1 .left, sym (c .before .before .is-known .ensures) ∙ c .before .if2 .left) (c .unassessed2 .ensures)
+returns-3 c =
+    let known = c .before .before in
+    rw (known .before .if1 .left, sym (known .is-known .ensures) ∙ c .before .if2 .left) (c .unassessed2 .ensures)
 
 pub assess-readable-spec : {M : Type 1} → statement M
 assess-readable-spec =

@@ -6,11 +6,16 @@ use Rattle.marks.specs.Assessments.{unitAssessment}
 use Rattle.marks.proofs.assess_unit.Statement.{statement}
 use Rattle.marks.proofs.assess_unit.Tie as tie
 
+abbrev start : tie.After-line → tie.Start
+start c = c .before .before .before
+
 enum-known-line : tie.Need-enum-known-line
 enum-known-line c = search needs
 
 assess-readable-requires : tie.Need-assess-readable-requires
-assess-readable-requires c κs = (subst SmallLine (c .before .line .given .1) (c .before .before .before .before .pre .line), c .before .before .before .before .pre .kept)
+assess-readable-requires c κs =
+    let s = start (c .before) in
+    (subst SmallLine (c .before .line .given .1) (s .pre .line), s .pre .kept)
 
 enum-told : tie.Need-enum-told
 enum-told c = search needs

@@ -1,23 +1,22 @@
 -- `marks::judge` meets its contract. Assumes nothing.
 use borrow.Author.Needs.{needs}
 use native.Mathlib.Omega.{arith}
-use mathlib.Core.Path.{_≡_, _∙_}
-use mir.Syntax.{w64}
-use mir.Val.{toZ, ofZ}
 use lib.Dec.{lit<}
-use Rattle.signed.proofs.Sizes.{held32, held64, held-size}
+use Rattle.marks.proofs.Held.{result32, Held, held, held-basis}
 use Rattle.marks.proofs.Small.{error-size}
 use Rattle.marks.proofs.Thresholds.{small-bounded}
-use Rattle.marks.specs.Errors.{errorOf}
 use Rattle.marks.specs.Assessments.{judged}
 use Rattle.marks.proofs.judge.Statement.{statement}
 use Rattle.marks.proofs.judge.Tie as tie
 
-error-is : (c : tie.After-error-of) → toZ w64 (ofZ w64 (c .error-of .result)) ≡ errorOf (c .before .args .b)
-error-is c = held64 (c .error-of .result) (c .error-of .ok) ∙ c .error-of .ensures
+abbrev error : tie.After-mark-of → tie.After-error-of
+error c = c .before .before .before
 
-power-is : (c : tie.Start) → toZ w64 (ofZ w64 (c .args .b .power)) ≡ c .args .b .power
-power-is c = held-size (c .args .b .power) (c .pre .power) (lit< tt)
+abbrev marked : tie.After-struct-told → tie.After-mark-of
+marked c = c .before .before
+
+error-held : (c : tie.After-error-of) → Held 390000000 (c .error-of .result)
+error-held c = held _ (rw (c .error-of .ensures) (error-size _ (c .before .pre))) (lit< tt)
 
 error-of-requires : tie.Need-error-of-requires
 error-of-requires c κs = search needs
@@ -29,25 +28,23 @@ trigger-of-requires-2 : tie.Need-trigger-of-requires-2
 trigger-of-requires-2 c κs = search needs
 
 mark-of-requires : tie.Need-mark-of-requires
-mark-of-requires c κs = rw (error-is (c .before .before)) (omega (arith, error-size (c .before .before .before .args .b) (c .before .before .before .pre)))
+mark-of-requires c κs = omega (arith, error-held (c .before .before))
+
+cast-trigger : tie.Need-cast-trigger
+cast-trigger c = let s = error c .before in omega (arith, small-bounded _ (s .args .b .rate) (s .pre .availability))
 
 narrowed-requires : tie.Need-narrowed-requires
-narrowed-requires c κs = rw (error-is (c .before .before .before)) (omega (arith, error-size (c .before .before .before .before .args .b) (c .before .before .before .before .pre)))
-
-cast-t7 : tie.Need-cast-t7
-cast-t7 c = omega (arith, c .before .before .before .trigger-of .ensures, small-bounded (c .before .before .before .before .before .args .b .availability) (c .before .before .before .before .before .args .b .rate) (c .before .before .before .before .before .pre .availability))
+narrowed-requires c κs = omega (arith, error-held (error c))
 
 narrowed-requires-2 : tie.Need-narrowed-requires-2
-narrowed-requires-2 c κs = rw (power-is (c .before .before .before .before .before .before)) (omega (arith, c .before .before .before .before .before .before .pre .power))
+narrowed-requires-2 c κs = let held = held-basis (error (marked c) .before .pre) in omega arith
 
 returns : tie.Need-returns
 unfolding judged
-returns c = cc (
-  error-is (c .before .before .before .before .before .before),
-  power-is (c .before .before .before .before .before .before .before),
-  held32 (c .before .before .narrowed .result) (c .before .before .narrowed .ok),
-  held32 (c .narrowed2 .result) (c .narrowed2 .ok),
-)
+returns c =
+    let found = error (marked (c .before)) in
+    let held = held-basis (found .before .pre) in
+    cc (error-held found .same, result32 (c .before .before .narrowed), result32 (c .narrowed2))
 
 pub judge-spec : {M : Type 1} → statement M
 judge-spec =
@@ -57,7 +54,7 @@ judge-spec =
     trigger-of-requires
     trigger-of-requires-2
     mark-of-requires
+    cast-trigger
     narrowed-requires
-    cast-t7
     narrowed-requires-2
     returns)

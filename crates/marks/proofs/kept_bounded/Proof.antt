@@ -1,21 +1,22 @@
 -- `marks::kept_bounded` meets its contract. Assumes nothing.
 use borrow.Author.Needs.{needs}
-use mathlib.Core.Path.{_≡_, _∙_}
+use mathlib.Core.Path.{_≡_}
 use mir.Syntax.{w64}
 use mir.Val.{toZ, ofZ}
-use Rattle.signed.proofs.Sizes.{held32, held64, size32}
+use Rattle.signed.proofs.Sizes.{held32, size32}
 use Rattle.marks.specs.KeptLines.{keptBounded}
+use Rattle.marks.proofs.Held.{result64}
 use Rattle.marks.proofs.kept_bounded.Statement.{statement}
 use Rattle.marks.proofs.kept_bounded.Tie as tie
 
-wide-is : (c : tie.After-widened) → toZ w64 (ofZ w64 (c .widened .result)) ≡ (c .before .before) .args .k .target
-wide-is c = held64 (c .widened .result) (c .widened .ok) ∙ c .widened .ensures ∙ held32 (c .before .before .args .k .target) (c .before .struct-told .given .1 .0 .1)
+wide-is : (c : tie.After-widened) → toZ w64 (ofZ w64 (c .widened .result)) ≡ c .before .before .args .k .target
+wide-is c = cc (result64 (c .widened), held32 (c .before .before .args .k .target) (search needs))
 
 widened-requires : tie.Need-widened-requires
 widened-requires c κs = search needs
 
 size-requires : tie.Need-size-requires
-size-requires c κs = rw (wide-is c) (size32 (c .before .before .args .k .target) (record { sfits = c .before .struct-told .given .1 .0 .1 }))
+size-requires c κs = rw (wide-is c) (size32 (c .before .before .args .k .target) (record { sfits = search needs }))
 
 returns : tie.Need-returns
 unfolding keptBounded

@@ -16,11 +16,13 @@ nothing-kept-requires c κs = search needs
 
 returns : tie.Need-returns
 unfolding keptFrom
-returns c = rw (c .before .before .line .given .1, held32 (c .before .before .line .given .0 .0 .target) (c .struct-told .given .1 .1 .0 .1))
+returns c =
+    let line = c .before .before .line .given in
+    rw (line .1, held32 (line .0 .0 .target) (search needs))
 
 returns-2 : tie.Need-returns-2
 unfolding keptFrom
-returns-2 c = rw (c .before .enum-told .given .1) (c .nothing-kept .ensures)
+returns-2 c = cc
 
 pub kept-from-spec : {M : Type 1} → statement M
 kept-from-spec =

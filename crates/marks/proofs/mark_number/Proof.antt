@@ -24,27 +24,27 @@ enum-told-6 c = search needs
 
 returns : tie.Need-returns
 unfolding markNumber
-returns c = rw (c .enum-told .given .1)
+returns c = cc
 
 returns-2 : tie.Need-returns-2
 unfolding markNumber
-returns-2 c = rw (c .enum-told2 .given .1)
+returns-2 c = cc
 
 returns-3 : tie.Need-returns-3
 unfolding markNumber
-returns-3 c = rw (c .enum-told3 .given .1)
+returns-3 c = cc
 
 returns-4 : tie.Need-returns-4
 unfolding markNumber
-returns-4 c = rw (c .enum-told4 .given .1)
+returns-4 c = cc
 
 returns-5 : tie.Need-returns-5
 unfolding markNumber
-returns-5 c = rw (c .enum-told5 .given .1)
+returns-5 c = cc
 
 returns-6 : tie.Need-returns-6
 unfolding markNumber
-returns-6 c = rw (c .enum-told6 .given .1)
+returns-6 c = cc
 
 pub mark-number-spec : {M : Type 1} → statement M
 mark-number-spec =

@@ -1,8 +1,7 @@
 -- `marks::power_in` meets its contract. Assumes nothing.
 use borrow.Author.Needs.{needs}
-use mathlib.Core.Path.{_∙_}
-use Rattle.signed.proofs.Sizes.{held32}
 use Rattle.marks.specs.Assessments.{kilowattsIn}
+use Rattle.marks.proofs.Held.{result32}
 use Rattle.marks.proofs.power_in.Statement.{statement}
 use Rattle.marks.proofs.power_in.Tie as tie
 
@@ -23,15 +22,15 @@ enum-told c = search needs
 
 returns : tie.Need-returns
 unfolding kilowattsIn
-returns c = rw (c .before .before .reading .given .1) (held32 (c .kilowatts .result) (c .kilowatts .ok) ∙ c .kilowatts .ensures)
+returns c = cc (result32 (c .kilowatts))
 
 returns-2 : tie.Need-returns-2
 unfolding kilowattsIn
-returns-2 c = rw (c .before .before .reading2 .given .1) (held32 (c .kilowatts2 .result) (c .kilowatts2 .ok) ∙ c .kilowatts2 .ensures)
+returns-2 c = cc (result32 (c .kilowatts2))
 
 returns-3 : tie.Need-returns-3
 unfolding kilowattsIn
-returns-3 c = rw (c .enum-told .given .1)
+returns-3 c = cc
 
 pub power-in-spec : {M : Type 1} → statement M
 power-in-spec =

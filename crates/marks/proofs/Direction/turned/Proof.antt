@@ -15,15 +15,15 @@ enum-told-3 c = search needs
 
 returns : tie.Need-returns
 unfolding opposite
-returns c = rw (c .enum-told .given .1)
+returns c = cc
 
 returns-2 : tie.Need-returns-2
 unfolding opposite
-returns-2 c = rw (c .enum-told2 .given .1)
+returns-2 c = cc
 
 returns-3 : tie.Need-returns-3
 unfolding opposite
-returns-3 c = rw (c .enum-told3 .given .1)
+returns-3 c = cc
 
 pub turned-spec : {M : Type 1} → statement M
 turned-spec = tie.close (tie.spec enum-told enum-told-2 enum-told-3 returns returns-2 returns-3)

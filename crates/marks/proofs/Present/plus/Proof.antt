@@ -1,23 +1,21 @@
 -- `marks::Present::plus` meets its contract. Assumes nothing.
 use borrow.Author.Needs.{needs}
 use native.Mathlib.Omega.{arith}
-use mathlib.Core.Path.{_≡_}
-use mir.Syntax.{w64}
-use mir.Val.{toZ, ofZ}
 use lib.Dec.{lit<}
-use Rattle.signed.proofs.Sizes.{held32, held64, held-size}
+use Rattle.signed.proofs.Sizes.{held32}
 use Rattle.marks.specs.Aggregates.{addPresent}
+use Rattle.marks.proofs.Held.{result32, result64, held-present}
 use Rattle.marks.proofs.Present.plus.Statement.{statement}
 use Rattle.marks.proofs.Present.plus.Tie as tie
 
-target-is : (c : tie.Start) → toZ w64 (ofZ w64 (c .args .self .target)) ≡ c .args .self .target
-target-is c = held-size (c .args .self .target) (c .pre .target) (lit< tt)
+abbrev start : tie.After-add-signed → tie.Start
+start c = c .before .before .before
 
-power-is : (c : tie.Start) → toZ w64 (ofZ w64 (c .args .self .power)) ≡ c .args .self .power
-power-is c = held-size (c .args .self .power) (c .pre .power) (lit< tt)
+abbrev target : tie.After-power-in → tie.After-add-signed
+target c = c .before .before
 
 add-signed-requires : tie.Need-add-signed-requires
-add-signed-requires c κs = rw (target-is (c .before .before)) (omega (arith, c .before .before .pre .target))
+add-signed-requires c κs = let held = held-present (c .before .before .pre) (lit< tt) in omega arith
 
 power-requires : tie.Need-power-requires
 power-requires c κs = search needs
@@ -26,18 +24,20 @@ power-in-requires : tie.Need-power-in-requires
 power-in-requires c κs = search needs
 
 add-signed-requires-2 : tie.Need-add-signed-requires-2
-add-signed-requires-2 c κs = rw (power-is (c .before .before .before .before .before .before)) (omega (arith, c .before .before .before .before .before .before .pre .power))
+add-signed-requires-2 c κs = let held = held-present (start (target (c .before)) .pre) (lit< tt) in omega arith
 
 returns : tie.Need-returns
 unfolding addPresent
-returns c = cc (
-  target-is (c .before .before .before .before .before .before .before),
-  power-is (c .before .before .before .before .before .before .before),
-  held32 (c .before .before .before .before .before .before .before .args .f .target) (c .before .before .before .before .before .struct-told2 .given .1 .1 .0 .1),
-  held32 (c .before .before .power-in .result) (c .before .before .power-in .ok),
-  held64 (c .before .before .before .before .add-signed .result) (c .before .before .before .before .add-signed .ok),
-  held64 (c .add-signed2 .result) (c .add-signed2 .ok),
-)
+returns c =
+    let power = c .before .before in
+    let s = start (target power) in
+    let held = held-present (s .pre) (lit< tt) in
+    cc (
+      held32 (s .args .f .target) (search needs),
+      result64 (target power .add-signed),
+      result32 (power .power-in),
+      result64 (c .add-signed2),
+    )
 
 pub plus-spec : {M : Type 1} → statement M
 plus-spec =

@@ -6,11 +6,16 @@ use Rattle.marks.specs.Aggregates.{addMember}
 use Rattle.marks.proofs.Sums.plus.Statement.{statement}
 use Rattle.marks.proofs.Sums.plus.Tie as tie
 
+abbrev start : tie.After-line → tie.Start
+start c = c .before .before .before
+
 enum-known-line : tie.Need-enum-known-line
 enum-known-line c = search needs
 
 plus-readable-requires : tie.Need-plus-readable-requires
-plus-readable-requires c κs = (c .before .before .before .before .pre .0, subst SmallLine (c .before .line .given .1) (c .before .before .before .before .pre .1 .line))
+plus-readable-requires c κs =
+    let s = start (c .before) in
+    (s .pre .0, subst SmallLine (c .before .line .given .1) (s .pre .1 .line))
 
 enum-told : tie.Need-enum-told
 enum-told c = search needs

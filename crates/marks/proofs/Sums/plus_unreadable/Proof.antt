@@ -9,7 +9,7 @@ unreadable-requires c κs = search needs
 
 returns : tie.Need-returns
 unfolding addUnreadable
-returns c = cc
+returns c = rw (c .unreadable .ensures)
 
 pub plus-unreadable-spec : {M : Type 1} → statement M
 plus-unreadable-spec = tie.close (tie.spec unreadable-requires returns)

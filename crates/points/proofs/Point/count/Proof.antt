@@ -1,6 +1,5 @@
 -- `points::Point::count` meets its contract: each arm is given which mark it is. Assumes nothing.
 use borrow.Author.Needs.{needs}
-use Rattle.signed.proofs.Sizes.{held32}
 use Rattle.points.specs.Points.{counted}
 use Rattle.points.proofs.Point.count.Statement.{statement}
 use Rattle.points.proofs.Point.count.Tie as tie
@@ -56,11 +55,11 @@ returns-4 c = rw (c .enum-told4 .given .1)
 
 returns-5 : tie.Need-returns-5
 unfolding counted
-returns-5 c = rw (c .before .before .enum-told5 .given .1) (cc (held32 (c .before .before .before .before .args .self .level) (c .struct-told .given .1 .1 .1 .0 .1)))
+returns-5 c = cc
 
 returns-6 : tie.Need-returns-6
 unfolding counted
-returns-6 c = rw (c .before .before .before .enum-told6 .given .1) (cc (held32 (c .before .before .before .before .before .args .self .level) (c .struct-told2 .given .1 .1 .1 .0 .1)))
+returns-6 c = cc
 
 pub count-spec : {M : Type 1} → statement M
 count-spec =

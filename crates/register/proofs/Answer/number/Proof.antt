@@ -12,11 +12,11 @@ enum-known-self c = search needs
 
 returns : tie.Need-returns
 unfolding answerNumber
-returns c = rw (c .enum-told .given .1)
+returns c = cc
 
 returns-2 : tie.Need-returns-2
 unfolding answerNumber
-returns-2 c = rw (c .before .self .given .1)
+returns-2 c = cc
 
 pub number-spec : {M : Type 1} → statement M
 number-spec = tie.close (tie.spec enum-told enum-known-self returns returns-2)

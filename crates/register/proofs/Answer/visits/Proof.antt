@@ -12,11 +12,11 @@ enum-told c = search needs
 
 returns : tie.Need-returns
 unfolding answerVisits
-returns c = rw (c .before .self .given .1)
+returns c = cc
 
 returns-2 : tie.Need-returns-2
 unfolding answerVisits
-returns-2 c = rw (c .enum-told .given .1)
+returns-2 c = cc
 
 pub visits-spec : {M : Type 1} → statement M
 visits-spec = tie.close (tie.spec enum-known-self enum-told returns returns-2)

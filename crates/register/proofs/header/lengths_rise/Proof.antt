@@ -16,9 +16,6 @@ lengths-at-requires-2 c κs = search needs
 rises-requires-2 : tie.Need-rises-requires-2
 rises-requires-2 c κs = search needs
 
-both-requires : tie.Need-both-requires
-both-requires c κs = search needs
-
 returns : tie.Need-returns
 unfolding lengthsRise
 returns c = cc
@@ -31,5 +28,4 @@ lengths-rise-spec =
     rises-requires
     lengths-at-requires-2
     rises-requires-2
-    both-requires
     returns)

@@ -6,11 +6,8 @@ use Rattle.register.proofs.plants.head_in.Tie as tie
 next-in-requires : tie.Need-next-in-requires
 next-in-requires c κs = search needs
 
-both-requires : tie.Need-both-requires
-both-requires c κs = search needs
-
 returns : tie.Need-returns
 returns c = cc
 
 pub head-in-spec : {M : Type 1} → statement M
-head-in-spec = tie.close (tie.spec next-in-requires both-requires returns)
+head-in-spec = tie.close (tie.spec next-in-requires returns)

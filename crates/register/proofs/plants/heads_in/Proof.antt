@@ -1,5 +1,5 @@
 -- `register::plants::heads_in` meets its contract. The flag is the test of every head passed. Assumes nothing.
-use mathlib.Core.Path.{_≡_, _∙_}
+use mathlib.Core.Path.{_≡_}
 use Prim.Native.Nat.{_≤_, _-_}
 use borrow.Author.Needs.{needs}
 use Rattle.trace.specs.Sweeps.{every}
@@ -15,16 +15,13 @@ abbrev μ-loop : tie.MeasureT-loop
 μ-loop plant count ok₀ j₀ ok j = plant .aggregates - j
 
 loop-holds : tie.Need-loop-holds Inv-loop μ-loop
-loop-holds c = (search needs, every-none _)
+loop-holds c = search (needs, every-none)
 
 element-copy-out-head-in : tie.Need-element-copy-out-head-in Inv-loop μ-loop
 element-copy-out-head-in c = search needs
 
 head-in-requires : tie.Need-head-in-requires Inv-loop μ-loop
 head-in-requires c κs = search needs
-
-both-requires : tie.Need-both-requires Inv-loop μ-loop
-both-requires c κs = search needs
 
 add-j : tie.Need-add-j Inv-loop μ-loop
 add-j c = search needs
@@ -33,10 +30,10 @@ loop-less : tie.Need-loop-less Inv-loop μ-loop
 loop-less c = search needs
 
 loop-again : tie.Need-loop-again Inv-loop μ-loop
-loop-again c = (search needs, c .both .ensures ∙ every-more _ _ _ _ (c .before .before .before .before .loop .inv .1) (c .before .head-in .ensures))
+loop-again c = search (needs, every-more)
 
 returns : tie.Need-returns Inv-loop μ-loop
-returns c = every-end _ _ _ _ (c .before .loop .inv .0) (c .loop-test .left) (c .before .loop .inv .1)
+returns c = search (needs, every-end)
 
 pub heads-in-spec : {M : Type 1} → statement M
 heads-in-spec =
@@ -47,7 +44,6 @@ heads-in-spec =
     loop-holds
     element-copy-out-head-in
     head-in-requires
-    both-requires
     add-j
     loop-less
     loop-again

@@ -10,12 +10,9 @@ nexts-in-requires c κs = search needs
 heads-in-requires : tie.Need-heads-in-requires
 heads-in-requires c κs = search needs
 
-both-requires : tie.Need-both-requires
-both-requires c κs = search needs
-
 returns : tie.Need-returns
 unfolding indicesIn
 returns c = cc
 
 pub indices-in-spec : {M : Type 1} → statement M
-indices-in-spec = tie.close (tie.spec nexts-in-requires heads-in-requires both-requires returns)
+indices-in-spec = tie.close (tie.spec nexts-in-requires heads-in-requires returns)

@@ -1,5 +1,5 @@
 -- `register::plants::known_kinds` meets its contract. The flag is the test of every kind passed. Assumes nothing.
-use mathlib.Core.Path.{_≡_, _∙_}
+use mathlib.Core.Path.{_≡_}
 use Prim.Native.Nat.{_≤_, _-_}
 use borrow.Author.Needs.{needs}
 use Rattle.trace.specs.Sweeps.{every}
@@ -16,16 +16,13 @@ abbrev μ-loop : tie.MeasureT-loop
 μ-loop plant count ok₀ i₀ ok i = plant .units - i
 
 loop-holds : tie.Need-loop-holds Inv-loop μ-loop
-loop-holds c = (search needs, every-none _)
+loop-holds c = search (needs, every-none)
 
 element-copy-out-known-kind : tie.Need-element-copy-out-known-kind Inv-loop μ-loop
 element-copy-out-known-kind c = search needs
 
 known-kind-requires : tie.Need-known-kind-requires Inv-loop μ-loop
 known-kind-requires c κs = search needs
-
-both-requires : tie.Need-both-requires Inv-loop μ-loop
-both-requires c κs = search needs
 
 add-i : tie.Need-add-i Inv-loop μ-loop
 add-i c = search needs
@@ -34,11 +31,11 @@ loop-less : tie.Need-loop-less Inv-loop μ-loop
 loop-less c = search needs
 
 loop-again : tie.Need-loop-again Inv-loop μ-loop
-loop-again c = (search needs, c .both .ensures ∙ every-more _ _ _ _ (c .before .before .before .before .loop .inv .1) (c .before .known-kind .ensures))
+loop-again c = search (needs, every-more)
 
 returns : tie.Need-returns Inv-loop μ-loop
 unfolding kindsKnown
-returns c = every-end _ _ _ _ (c .before .loop .inv .0) (c .loop-test .left) (c .before .loop .inv .1)
+returns c = search (needs, every-end)
 
 pub known-kinds-spec : {M : Type 1} → statement M
 known-kinds-spec =
@@ -49,7 +46,6 @@ known-kinds-spec =
     loop-holds
     element-copy-out-known-kind
     known-kind-requires
-    both-requires
     add-i
     loop-less
     loop-again

@@ -26,12 +26,9 @@ known-kinds-requires c κs = few c .0
 indices-in-requires : tie.Need-indices-in-requires
 indices-in-requires c κs = few (c .before)
 
-both-requires : tie.Need-both-requires
-both-requires c κs = search needs
-
 returns : tie.Need-returns
 unfolding plantSound
-returns c = rw (counts (c .before .before .before)) (cc)
+returns c = rw (counts (c .before .before)) (cc)
 
 returns-2 : tie.Need-returns-2
 unfolding plantSound
@@ -44,6 +41,5 @@ plant-sound-spec =
     counts-in-requires
     known-kinds-requires
     indices-in-requires
-    both-requires
     returns
     returns-2)

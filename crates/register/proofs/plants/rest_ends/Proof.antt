@@ -1,5 +1,5 @@
 -- `register::plants::rest_ends` meets its contract. The flag is the test of every unit passed. Assumes nothing.
-use mathlib.Core.Path.{_≡_, _∙_}
+use mathlib.Core.Path.{_≡_}
 use Prim.Native.Nat.{_≤_, _-_}
 use borrow.Author.Needs.{needs}
 use Rattle.trace.specs.Sweeps.{every}
@@ -16,19 +16,13 @@ abbrev μ-loop : tie.MeasureT-loop
 μ-loop plant count ok₀ i₀ ok i = plant .units - i
 
 loop-holds : tie.Need-loop-holds Inv-loop μ-loop
-loop-holds c = (search needs, every-none _)
+loop-holds c = search (needs, every-none)
 
-element-copy-out-either : tie.Need-element-copy-out-either Inv-loop μ-loop
-element-copy-out-either c = search needs
+element-copy-out-ok : tie.Need-element-copy-out-ok Inv-loop μ-loop
+element-copy-out-ok c = search needs
 
-element-copy-out-either-2 : tie.Need-element-copy-out-either-2 Inv-loop μ-loop
-element-copy-out-either-2 c = search needs
-
-either-requires : tie.Need-either-requires Inv-loop μ-loop
-either-requires c κs = search needs
-
-both-requires : tie.Need-both-requires Inv-loop μ-loop
-both-requires c κs = search needs
+element-copy-out-ok-2 : tie.Need-element-copy-out-ok-2 Inv-loop μ-loop
+element-copy-out-ok-2 c = search needs
 
 add-i : tie.Need-add-i Inv-loop μ-loop
 add-i c = search needs
@@ -37,11 +31,11 @@ loop-less : tie.Need-loop-less Inv-loop μ-loop
 loop-less c = search needs
 
 loop-again : tie.Need-loop-again Inv-loop μ-loop
-loop-again c = (search needs, c .both .ensures ∙ every-more _ _ _ _ (c .before .before .before .before .before .loop .inv .1) (c .before .either .ensures))
+loop-again c = search (needs, every-more)
 
 returns : tie.Need-returns Inv-loop μ-loop
 unfolding restEnds
-returns c = every-end _ _ _ _ (c .before .loop .inv .0) (c .loop-test .left) (c .before .loop .inv .1)
+returns c = search (needs, every-end)
 
 pub rest-ends-spec : {M : Type 1} → statement M
 rest-ends-spec =
@@ -50,10 +44,8 @@ rest-ends-spec =
     Inv-loop
     μ-loop
     loop-holds
-    element-copy-out-either
-    element-copy-out-either-2
-    either-requires
-    both-requires
+    element-copy-out-ok
+    element-copy-out-ok-2
     add-i
     loop-less
     loop-again

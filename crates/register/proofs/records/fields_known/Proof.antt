@@ -3,22 +3,14 @@ use borrow.Author.Needs.{needs}
 use Rattle.register.proofs.records.fields_known.Statement.{statement}
 use Rattle.register.proofs.records.fields_known.Tie as tie
 
--- `register::records::fields_known` meets its contract. Assumes nothing.
-
 zeros-requires : tie.Need-zeros-requires
 zeros-requires c κs = search needs
 
 known-kinds-requires : tie.Need-known-kinds-requires
 known-kinds-requires c κs = search needs
 
-both-requires : tie.Need-both-requires
-both-requires c κs = search needs
-
 spares-zero-requires : tie.Need-spares-zero-requires
 spares-zero-requires c κs = search needs
-
-both-requires-2 : tie.Need-both-requires-2
-both-requires-2 c κs = search needs
 
 returns : tie.Need-returns
 returns c = cc
@@ -29,7 +21,5 @@ fields-known-spec =
     (tie.spec
     zeros-requires
     known-kinds-requires
-    both-requires
     spares-zero-requires
-    both-requires-2
     returns)

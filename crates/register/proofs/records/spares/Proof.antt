@@ -1,5 +1,5 @@
 -- `register::records::spares` meets its contract. The flag is the test of every record passed. Assumes nothing.
-use mathlib.Core.Path.{_≡_, _∙_}
+use mathlib.Core.Path.{_≡_}
 use Prim.Native.Nat.{_≤_, _-_}
 use borrow.Author.Needs.{needs}
 use Rattle.trace.specs.Sweeps.{every}
@@ -15,7 +15,7 @@ abbrev μ-loop : tie.MeasureT-loop
 μ-loop bytes at size count ok₀ i₀ ok i = count - i
 
 loop-holds : tie.Need-loop-holds Inv-loop μ-loop
-loop-holds c = (search needs, every-none _)
+loop-holds c = search (needs, every-none)
 
 mul-zeros : tie.Need-mul-zeros Inv-loop μ-loop
 mul-zeros c = search needs
@@ -26,9 +26,6 @@ add-zeros c = search needs
 zeros-requires : tie.Need-zeros-requires Inv-loop μ-loop
 zeros-requires c κs = search needs
 
-both-requires : tie.Need-both-requires Inv-loop μ-loop
-both-requires c κs = search needs
-
 add-i : tie.Need-add-i Inv-loop μ-loop
 add-i c = search needs
 
@@ -36,10 +33,10 @@ loop-less : tie.Need-loop-less Inv-loop μ-loop
 loop-less c = search needs
 
 loop-again : tie.Need-loop-again Inv-loop μ-loop
-loop-again c = (search needs, c .both .ensures ∙ every-more _ _ _ _ (c .before .before .before .loop .inv .1) (c .before .zeros .ensures))
+loop-again c = search (needs, every-more)
 
 returns : tie.Need-returns Inv-loop μ-loop
-returns c = every-end _ _ _ _ (c .before .loop .inv .0) (c .loop-test .left) (c .before .loop .inv .1)
+returns c = search (needs, every-end)
 
 pub spares-spec : {M : Type 1} → statement M
 spares-spec =
@@ -51,7 +48,6 @@ spares-spec =
     mul-zeros
     add-zeros
     zeros-requires
-    both-requires
     add-i
     loop-less
     loop-again

@@ -1,6 +1,5 @@
 -- `register::records::zeros` meets its contract. The flag is the test of every byte passed. Assumes nothing.
-use mathlib.Core.Path.{_≡_, _∙_}
-use mathlib.Core.Path.{_≡_, refl, _∙_}
+use mathlib.Core.Path.{_≡_}
 use Prim.Native.Nat.{_≤_, _-_}
 use borrow.Author.Needs.{needs}
 use Rattle.trace.specs.Sweeps.{every}
@@ -16,16 +15,13 @@ abbrev μ-loop : tie.MeasureT-loop
 μ-loop bytes at count ok₀ k₀ ok k = count - k
 
 loop-holds : tie.Need-loop-holds Inv-loop μ-loop
-loop-holds c = (search needs, every-none _)
+loop-holds c = search (needs, every-none)
 
-add-both : tie.Need-add-both Inv-loop μ-loop
-add-both c = search needs
+add-ok : tie.Need-add-ok Inv-loop μ-loop
+add-ok c = search needs
 
-shared-slice-read-both : tie.Need-shared-slice-read-both Inv-loop μ-loop
-shared-slice-read-both c = search needs
-
-both-requires : tie.Need-both-requires Inv-loop μ-loop
-both-requires c κs = search needs
+shared-slice-read-ok : tie.Need-shared-slice-read-ok Inv-loop μ-loop
+shared-slice-read-ok c = search needs
 
 add-k : tie.Need-add-k Inv-loop μ-loop
 add-k c = search needs
@@ -34,10 +30,10 @@ loop-less : tie.Need-loop-less Inv-loop μ-loop
 loop-less c = search needs
 
 loop-again : tie.Need-loop-again Inv-loop μ-loop
-loop-again c = (search needs, c .both .ensures ∙ every-more _ _ _ _ (c .before .before .before .loop .inv .1) (refl))
+loop-again c = search (needs, every-more)
 
 returns : tie.Need-returns Inv-loop μ-loop
-returns c = every-end _ _ _ _ (c .before .loop .inv .0) (c .loop-test .left) (c .before .loop .inv .1)
+returns c = search (needs, every-end)
 
 pub zeros-spec : {M : Type 1} → statement M
 zeros-spec =
@@ -46,9 +42,8 @@ zeros-spec =
     Inv-loop
     μ-loop
     loop-holds
-    add-both
-    shared-slice-read-both
-    both-requires
+    add-ok
+    shared-slice-read-ok
     add-k
     loop-less
     loop-again

@@ -4,11 +4,8 @@ use Rattle.register.specs.Walks.{stepTo}
 use Rattle.register.proofs.visits.step_to.Statement.{statement}
 use Rattle.register.proofs.visits.step_to.Tie as tie
 
-array-read-either : tie.Need-array-read-either
-array-read-either c = search needs
-
-either-requires : tie.Need-either-requires
-either-requires c κs = search needs
+array-read-twice : tie.Need-array-read-twice
+array-read-twice c = search needs
 
 array-write-met : tie.Need-array-write-met
 array-write-met c = search needs
@@ -22,4 +19,4 @@ returns c = cc
 
 pub step-to-spec : {M : Type 1} → statement M
 step-to-spec =
-    tie.close (tie.spec array-read-either either-requires array-write-met add-t11 returns)
+    tie.close (tie.spec array-read-twice array-write-met add-t11 returns)

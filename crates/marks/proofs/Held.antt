@@ -1,0 +1,47 @@
+-- Signed numbers as locals hold them: their bits, read again. Assumes nothing.
+use mathlib.Core.Path.{_≡_}
+use mathlib.Core.List.{List}
+use Prim.Native.Nat.{ℕ, _≤_, _<_, _^_}
+use mir.Syntax.{w32, w64}
+use mir.Val.{toZ, ofZ}
+use borrow.Author.Called.{Called}
+use borrow.Fn.Args.{ArgsT}
+use borrow.Fn.Kind.{PK}
+use borrow.Fn.Kinds.{Out, rSNum}
+use borrow.Table.Row.{Cx}
+use borrow.Table.Typed.{Mo}
+use lib.Dec.{lit<}
+use lib.IntN.{ℤ, natAbs}
+use Rattle.signed.proofs.Sizes.{held32, held64, held-size}
+use Rattle.marks.specs.Bounds.{SmallPresent, SmallKeptSums, SmallBasis}
+use Rattle.marks.specs.declared.Present.{Present}
+use Rattle.marks.specs.declared.KeptSums.{KeptSums}
+use Rattle.marks.specs.declared.Basis.{Basis}
+
+-- a call's result
+module _ {ps : List (PK 0)} {Γ : Cx} {ar : ArgsT ps (Γ .locals)} {u : Mo Γ} where
+  pub result32 : {Q : Out 0 ps (rSNum w32)} (call : Called ps (rSNum w32) Q Γ ar u) → toZ w32 (ofZ w32 (call .result)) ≡ call .result
+  result32 call = held32 (call .result) (call .ok)
+
+  pub result64 : {Q : Out 0 ps (rSNum w64)} (call : Called ps (rSNum w64) Q Γ ar u) → toZ w64 (ofZ w64 (call .result)) ≡ call .result
+  result64 call = held64 (call .result) (call .ok)
+
+-- the numbers of sums and bases, which are small
+pub record Held (n : ℕ) (z : ℤ) : Type 0 where
+  pub same : toZ w64 (ofZ w64 z) ≡ z
+  pub size : natAbs (toZ w64 (ofZ w64 z)) ≤ n
+
+pub held : {n : ℕ} (z : ℤ) → natAbs z ≤ n → n < 2 ^ 63 → Held n z
+held z h l = record { same = held-size z h l; size = rw (held-size z h l) h }
+
+pub held-present : {n : ℕ} {s : Present} → SmallPresent n s → n < 2 ^ 63 → Held n (s .target) × Held n (s .power)
+held-present s l = (held _ (s .target) l, held _ (s .power) l)
+
+pub held-kept : {n : ℕ} {s : KeptSums} → SmallKeptSums n s → n < 2 ^ 63 → Held n (s .target) × Held n (s .raise) × Held n (s .lower)
+held-kept s l = (held _ (s .target) l, held _ (s .raise) l, held _ (s .lower) l)
+
+pub held-basis : {b : Basis} → SmallBasis b
+    → Held 130000000 (b .power) × Held 130000000 (b .target) × Held 130000000 (b .up) × Held 130000000 (b .down)
+held-basis s =
+    let room = lit< tt in
+    (held _ (s .power) room, held _ (s .target) room, held _ (s .up) room, held _ (s .down) room)

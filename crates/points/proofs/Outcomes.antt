@@ -1,0 +1,59 @@
+-- Each way out of the rules on a point, over plain values: what was tested on the way there, and what the definitions then say.
+-- Assumes nothing.
+use mathlib.Core.Path.{_≡_, sym, _∙_}
+use mathlib.Core.Bool.{Bool, true, false}
+use Prim.Native.Nat.{ℕ, _^_, _≤_, _<_}
+use borrow.Author.Tests.{eq-eqb, ne-eqb, le-leb, lt-leb}
+use lib.Signed.{mag}
+use mir.Syntax.{w32}
+use mir.Val.{toZ, ofZ}
+use Rattle.signed.proofs.Sizes.{held32}
+use Rattle.marks.specs.declared.Assessment.{Assessment}
+use Rattle.points.specs.declared.Point.{Point}
+use Rattle.points.specs.declared.Rule.{Rule}
+use Rattle.points.specs.Points.{declaredAt, counted, reaches, statusOf, graded, declares, settled, markedBy}
+
+-- ---- status
+
+module _ (rule : Rule) (small large : ℕ) (pending : Bool) (p : pending ≡ reaches (rule .small .pending) (rule .large .pending) small large) where
+  pub pending-automatic : pending ≡ true → rule .automatic ≡ true → 3 ≡ statusOf rule small large
+  unfolding statusOf
+  pending-automatic t a = rw (sym p ∙ t, a)
+
+  pub pending-manual : pending ≡ true → rule .automatic ≡ false → 2 ≡ statusOf rule small large
+  unfolding statusOf
+  pending-manual t a = rw (sym p ∙ t, a)
+
+  module _ (f : pending ≡ false) (late : Bool) (l : late ≡ reaches (rule .small .«not_responding») (rule .large .«not_responding») small large) where
+    pub not-responding : late ≡ true → 2 ≡ statusOf rule small large
+    unfolding statusOf
+    not-responding t = rw (sym p ∙ f, sym l ∙ t)
+
+    pub off-target : late ≡ false → 1 ≤ small → 1 ≡ statusOf rule small large
+    unfolding statusOf
+    off-target t h = rw (sym p ∙ f, sym l ∙ t, le-leb 1 small h)
+
+    pub on-target : late ≡ false → small < 1 → 0 ≡ statusOf rule small large
+    unfolding statusOf
+    on-target t h = rw (sym p ∙ f, sym l ∙ t, lt-leb 1 small h)
+
+-- ---- declaration
+
+module _ (rule : Rule) (a : Assessment) (p r : Point) where
+  module _ (declared : Bool) (d : declared ≡ declares rule (a .mark) (p .small) (p .large)) where
+    -- the level, as a local holds it
+    pub settled-declared : declared ≡ true → mag (a .power) < 2 ^ 31 → r ≡ declaredAt (toZ w32 (ofZ w32 (a .power))) → r ≡ settled rule a p
+    unfolding settled
+    settled-declared t h q = rw (sym d ∙ t, ← held32 (a .power) h) q
+
+    pub settled-graded : declared ≡ false → r ≡ graded rule p → r ≡ settled rule a p
+    unfolding settled
+    settled-graded t q = rw (sym d ∙ t) q
+
+  pub marked-declared : p .status ≡ 4 → p ≡ markedBy rule a p
+  unfolding markedBy
+  marked-declared e = rw (eq-eqb (p .status) 4 e)
+
+  pub marked-counted : (p .status ≡ 4 → ⊥) → (q : Point) → q ≡ counted (a .mark) p → r ≡ settled rule a q → r ≡ markedBy rule a p
+  unfolding markedBy
+  marked-counted n q c s = rw (ne-eqb (p .status) 4 n, ← c) s
