@@ -30,18 +30,6 @@ named-is plant (suc i) = go (ltb i (total plant)) refl
     go false e = let h : total plant ≤ i = ltb-false i (total plant) e in rw (le-leb 1 (suc i) (omega arith), lt-leb (suc i) (total plant) (omega arith))
 
 module _ (m : Monitor) (p : ℕ) where
-  pub locates-20 : soundOf m ≡ false → locateOf m p ≡ Refuse 20
-  unfolding locateOf
-  locates-20 e = rw e
-
-  pub locates-10 : soundOf m ≡ true → named (m .plant) p ≡ false → locateOf m p ≡ Refuse 10
-  unfolding locateOf
-  locates-10 e f = rw (e, f)
-
-  pub locates : soundOf m ≡ true → named (m .plant) p ≡ true → locateOf m p ≡ Accept
-  unfolding locateOf
-  locates e f = rw (e, f)
-
   -- the state is sound and the point is named
   both-pass : locateOf m p ≡ Accept → (soundOf m ≡ true) × (named (m .plant) p ≡ true)
   unfolding locateOf
@@ -60,16 +48,17 @@ module _ (m : Monitor) (p : ℕ) where
 
 -- ---- what a call does, by where it points
 
+-- a refusal after a test stays one, whatever stands behind the test
+still-refused : (b : Bool) (v w : Verdict) (j k : ℕ) → (v ≡ Refuse k → w ≡ Refuse k) → cond b v (Refuse j) ≡ Refuse k → cond b w (Refuse j) ≡ Refuse k
+still-refused true v w j k f e = f e
+still-refused false v w j k f e = e
+
 module _ (m : Monitor) (p : ℕ) (v : Verdict) (is : v ≡ locateOf m p) where
   judged-refused : (op : Operator) (k : ℕ) → v ≡ Refuse k → operatorVerdict op m p ≡ Refuse k
   unfolding operatorVerdict locateOf
-  judged-refused op k e = go (soundOf m) (named (m .plant) p) (sym is ∙ e)
-    where
-      go : (s n : Bool) → cond s (cond n Accept (Refuse 10)) (Refuse 20) ≡ Refuse k
-          → cond s (cond n (permit op (pointAt m (place p))) (Refuse 10)) (Refuse 20) ≡ Refuse k
-      go true true f = absurd (let z : _≡_ {A = ℕ} 0 1 = cc in omega arith)
-      go true false f = f
-      go false n f = f
+  judged-refused op k e =
+      let own = still-refused (named (m .plant) p) Accept _ 10 k (λ a. absurd (let z : _≡_ {A = ℕ} 0 1 = cc in omega arith)) in
+      still-refused (soundOf m) _ _ 20 k own (sym is ∙ e)
 
   judged-accepted : (op : Operator) (i : ℕ) → v ≡ Accept → i ≡ p - 1 → operatorVerdict op m p ≡ permit op (pointAt m i)
   unfolding operatorVerdict

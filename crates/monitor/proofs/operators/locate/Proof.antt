@@ -4,7 +4,9 @@ use mathlib.Core.Path.{_≡_, sym, _∙_}
 use mathlib.Core.Bool.{true}
 use borrow.Author.Tests.{not-true, not-false}
 use Rattle.monitor.proofs.States.{units-small, aggregates-small}
-use Rattle.monitor.proofs.Operated.{named-is, locates-20, locates-10, locates}
+use Rattle.monitor.proofs.Operated.{named-is}
+use Rattle.monitor.specs.Operators.{locateOf}
+use Rattle.monitor.specs.Plants.{named}
 use Rattle.monitor.specs.Monitors.{soundOf}
 use Rattle.monitor.proofs.operators.locate.Statement.{statement}
 use Rattle.monitor.proofs.operators.locate.Tie as tie
@@ -15,20 +17,26 @@ loaded c = c .before .before
 sound : (c : tie.Else1) → soundOf (c .before .before .args .m) ≡ true
 sound c = sym (c .before .is-sound .ensures) ∙ not-false _ (c .if1 .left)
 
+named-by : (c : tie.After-is-named) → let s = loaded c .before .before .args in named (s .m .plant) (s .point) ≡ c .is-named .result
+named-by c = named-is _ _ ∙ sym (c .is-named .ensures)
+
 is-sound-requires : tie.Need-is-sound-requires
 is-sound-requires c κs = search needs
 
 returns : tie.Need-returns
-returns c = sym (locates-20 _ _ (sym (c .before .is-sound .ensures) ∙ not-true _ (c .if1 .taken)))
+unfolding locateOf
+returns c = rw (sym (c .before .is-sound .ensures) ∙ not-true _ (c .if1 .taken))
 
 is-named-requires : tie.Need-is-named-requires
 is-named-requires c κs = (units-small _ (sound (c .before)), aggregates-small _ (sound (c .before)))
 
 returns-2 : tie.Need-returns-2
-returns-2 c = sym (locates-10 _ _ (sound (loaded (c .before))) (named-is _ _ ∙ sym (c .before .is-named .ensures) ∙ not-true _ (c .if2 .taken)))
+unfolding locateOf
+returns-2 c = rw (sound (loaded (c .before)), named-by (c .before) ∙ not-true _ (c .if2 .taken))
 
 returns-3 : tie.Need-returns-3
-returns-3 c = sym (locates _ _ (sound (loaded (c .before))) (named-is _ _ ∙ sym (c .before .is-named .ensures) ∙ not-false _ (c .if2 .left)))
+unfolding locateOf
+returns-3 c = rw (sound (loaded (c .before)), named-by (c .before) ∙ not-false _ (c .if2 .left))
 
 pub locate-spec : {M : Type 1} → statement M
 locate-spec = tie.close (tie.spec is-sound-requires returns is-named-requires returns-2 returns-3)
