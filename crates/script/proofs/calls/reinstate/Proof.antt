@@ -10,9 +10,6 @@ number c = c .before .before .before
 abbrev reinstate : tie.After-number → tie.After-reinstate
 reinstate c = c .before .before .before
 
-abbrev start : tie.After-reinstate → tie.Start
-start c = c .before
-
 reinstate-requires : tie.Need-reinstate-requires
 reinstate-requires c κs = search needs
 

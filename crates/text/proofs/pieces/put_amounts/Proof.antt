@@ -26,9 +26,6 @@ from-first c = c .before .before .before .before
 abbrev from-second : tie.After-put-word-at → tie.Start
 from-second c = c .before .before .before .before .before .before .before .before
 
-abbrev from-third : tie.After-put-whole-at2 → tie.Start
-from-third c = c .before .before .before .before .before .before .before .before .before .before .before .before
-
 -- what is put behind the error, and behind the trigger
 abbrev behind-error : List ℕ → List ℕ
 behind-error r = wordField r 8 ++ (wholeField r 12 ++ (10 ∷ []))
