@@ -20,7 +20,7 @@ def nearest_kw(bits):
 
 
 def packed(f):
-    """A line from its fields, with the readings given as bits."""
+    """A line from its fields, with the readings given as bits. Byte 2 is the cap flag of kind 4, and a spare of the others."""
     head = bytes([f["quality"], f["mode"], f["byte 2"], f["byte 3"]])
     numbers = struct.pack("<i5I", f["target"], *(f[name] for name in UNSIGNED))
     return head + numbers + struct.pack("<3I", *(f[name] for name in READINGS))

@@ -3,21 +3,23 @@
 
     make_calls.py           writes the files
     make_calls.py --check   writes nothing; exit 1 where a file differs from what would be written, or where the lines of the
-                            group that `alike_1` and `alike_2` share are not equal
+                            group that two lists share, `alike_1` and `alike_2` among them, are not equal
 
-Every expected line is worked out by hand from 01; nothing here computes a mark, and no monitor is run. A step of a list is a
-call's bytes and the lines that it prints. A point's line is interval, point, status (0 Normal, 1 Off-Target, 2 Not-Responding,
-3 NC-Pending, 4 Non-Conforming), mark (0 OFF, 1 BLANK, 2 CLEAR, 3 DOUBT, 4 SMALL, 5 LARGE), small run, large run, error, small
-trigger, level.
+Every expected line is worked out by hand from 01, and for kind 4 from 02, 2026-01; nothing here computes a mark, and no monitor
+is run. A step of a list is a call's bytes and the lines that it prints. A point's line is interval, point, status (0 Normal,
+1 Off-Target, 2 Not-Responding, 3 NC-Pending, 4 Non-Conforming), mark (0 OFF, 1 BLANK, 2 CLEAR, 3 DOUBT, 4 SMALL, 5 LARGE), small
+run, large run, error, small trigger, level.
 
-tests/calls/alike_*/group has the numbers of the output's lines that belong to the group, one a line.
+tests/calls/alike_*/group has the numbers of the output's lines that belong to the group, one a line. Two lists that are alike
+have one name but for its end, _1 and _2.
 """
 
 import pathlib
 import struct
 import sys
 
-from plant_bytes import (AUTOMATIC, BAD, BIDIRECTIONAL, GENERATING, LOAD, MANUAL, SUBSTITUTED, interval, line, register)
+from plant_bytes import (AUTOMATIC, BAD, BIDIRECTIONAL, GENERATING, LOAD, MANUAL, SEMI_SCHEDULED, SUBSTITUTED, interval, line,
+                         register)
 
 ROOT = pathlib.Path(__file__).resolve().parent.parent
 LENGTHS = (2, 3, 4, 2, 3, 4)  # Ns, Ps, Ds, Nl, Pl, Dl
@@ -255,8 +257,8 @@ def operator_declaration():
 
 
 def refusals_without_register():
-    """20 goes before all else; refusals 1 to 7 of a load, which leave no register."""
-    one, two = (GENERATING, 0), [(GENERATING, 0), (GENERATING, 0)]
+    """20 goes before all else; refusals 1 to 7 and 30 of a load, which leave no register."""
+    one, two, sun = (GENERATING, 0), [(GENERATING, 0), (GENERATING, 0)], (SEMI_SCHEDULED, 0)
 
     def changed(registered, **bytes_at):
         out = bytearray(registered)
@@ -283,9 +285,9 @@ def refusals_without_register():
                 load(register((2, 4, 4, 2, 3, 4), [one])), load(register((2, 3, 4, 1, 3, 4), [one])),
                 load(register((2, 3, 4, 3, 3, 4), [one])), load(register((2, 3, 4, 2, 4, 4), [one])),
                 load(register((2, 3, 4, 2, 3, 2), [(0, 9)]))),
-        # 4: kind 0 and 4; spares of the header, of a unit and of a head.
-        refused("load", 4, load(register(LENGTHS, [(0, 0)])), load(register(LENGTHS, [one, (4, 0)])),
-                load(changed(ONE_UNIT, _8=1)), load(changed(ONE_UNIT, _15=128)),
+        # 4: kind 0, 5 and 255; spares of the header, of a unit and of a head.
+        refused("load", 4, load(register(LENGTHS, [(0, 0)])), load(register(LENGTHS, [one, (5, 0)])),
+                load(register(LENGTHS, [sun, (255, 0)])), load(changed(ONE_UNIT, _8=1)), load(changed(ONE_UNIT, _15=128)),
                 load(changed(ONE_UNIT, _18=1)), load(changed(ONE_UNIT, _19=1)),
                 load(changed(chained, _25=1)), load(changed(chained, _26=1)), load(changed(chained, _27=1))),
         # 4 over the whole register goes before 5: a spare in the last head, a next above n in the first unit.
@@ -303,6 +305,21 @@ def refusals_without_register():
         # 7: a next in a unit that no chain met; a loop among such units.
         refused("load", 7, load(register(LENGTHS, [one, (GENERATING, 1)], [1])),
                 load(register(LENGTHS, [one, (GENERATING, 3), (GENERATING, 2)], [1]))),
+        # 7: a next in a unit of kind 4 that no chain met.
+        refused("load", 7, load(register(LENGTHS, [one, (SEMI_SCHEDULED, 1)], [1])),
+                load(register(LENGTHS, [(SEMI_SCHEDULED, 1)]))),
+        # 4 to 7 go before 30: kind 4 in a chain, and a spare, an index, a unit met twice, a next that no chain met behind it and
+        # before it.
+        refused("load", 4, load(register(LENGTHS, [sun, (5, 0)], [1])), load(register(LENGTHS, [sun], [1])[:-1] + b"\1")),
+        refused("load", 5, load(register(LENGTHS, [sun, (GENERATING, 3)], [1])), load(register(LENGTHS, [sun], [1, 0]))),
+        refused("load", 6, load(register(LENGTHS, [(SEMI_SCHEDULED, 1)], [1])), load(register(LENGTHS, [sun], [1, 1]))),
+        refused("load", 7, load(register(LENGTHS, [sun, (GENERATING, 1)], [1])),
+                load(register(LENGTHS, [(GENERATING, 2), sun], [2])), load(register(LENGTHS, [(SEMI_SCHEDULED, 2), sun], [2]))),
+        # 30: kind 4 alone in a chain, as head, in the middle and at the end; in the last chain; beside one in no chain.
+        refused("load", 30, load(register(LENGTHS, [sun], [1])), load(register(LENGTHS, [(SEMI_SCHEDULED, 2), one], [1])),
+                load(register(LENGTHS, [(GENERATING, 2), (SEMI_SCHEDULED, 3), one], [1])),
+                load(register(LENGTHS, [(GENERATING, 2), sun], [1])), load(register(LENGTHS, [*two, sun], [1, 2, 3])),
+                load(register(LENGTHS, [sun, sun], [2])), load(register(LENGTHS, [sun, sun], [1]))),
         # None of them left a register.
         refused("look", 20, look(1)),
     ]
@@ -450,11 +467,12 @@ def load_again():
         (load(ONE_UNIT), "load accepted 0"),
         accepted(at(10, 100.0), "10 1 0 1 0 0 0 0 0"),
         accepted(at(11, 107.0), "11 1 1 5 1 1 7000 600000 0"),
-        # Refused: empty, too short for its two units, a spare, a unit met twice, a next that no chain meets.
+        # Refused: empty, too short for its two units, a spare, a unit met twice, a next that no chain meets, kind 4 in a chain.
         refused("load", 1, load(b""), load(TWO_UNITS[:-4])),
         refused("load", 4, load(TWO_UNITS[:-1] + b"\1")),
         refused("load", 6, load(register(LENGTHS, [(GENERATING, 0)] * 2, [2, 2]))),
         refused("load", 7, load(register(LENGTHS, [(GENERATING, 2), (GENERATING, 0)]))),
+        refused("load", 30, load(register(LENGTHS, [(GENERATING, 2), (SEMI_SCHEDULED, 0)], [1]))),
         # Still one unit, its status and runs, and the last number.
         (look(1), "look accepted 1 1 1 0"),
         refused("look", 10, look(2)),
@@ -595,16 +613,141 @@ def limits():
     ]
 
 
+def solar():
+    """Semi-scheduled unit 1 and generating unit 2, both in no chain. Unit 1 is on target from 99,000 to 102,000."""
+    registered = register(LENGTHS, [(SEMI_SCHEDULED, 0), (GENERATING, 0)])
+
+    def sun(mw, cap, **changes):
+        return wide(mw, fcr=2_000, fcl=1_000, cap=cap, **changes)
+
+    def at(number, first, text, second=100.0, other="0 2 0 0 0 600000 0", mode=AUTOMATIC):
+        """Unit 2 is on target, CLEAR, unless something else is said."""
+        return accepted(interval(number, mode, first, wide(second)), f"{number} 1 {text}", f"{number} 2 {other}")
+
+    return [
+        (load(registered), "load accepted 0"),
+        (look(1), "look accepted 0 0 0 0"),
+        # Nothing kept: BLANK, whatever the flag.
+        at(1, sun(120.0, 0), "0 1 0 0 0 0 0", other="0 1 0 0 0 0 0"),
+        # The kept flag is 0: OFF, and this line's is only kept. Unit 2: 7,000, SMALL.
+        at(2, sun(120.0, 1), "0 0 0 0 0 0 0", 107.0, "1 4 1 0 7000 600000 0"),
+        (look(1), "look accepted 0 0 0 0"),
+        refused("declare", 22, declare(1, 0)),
+        # The kept flag is 1. 108,000 - 102,000 = 6,000: 600,000 does not exceed 600,000. Unit 2 goes on: small run 2.
+        at(3, sun(108.0, 1), "0 2 0 0 6000 600000 0", 107.0, "2 4 2 0 7000 600000 0"),
+        # 6,001 is SMALL; so is 10,000, as 1,000,000 does not exceed the large trigger; 10,001 is LARGE.
+        at(4, sun(108.001, 1), "1 4 1 0 6001 600000 0"),
+        at(5, sun(112.0, 1), "2 4 2 0 10000 600000 0"),
+        at(6, sun(112.001, 0), "3 5 3 1 10001 600000 0", 107.0, "1 4 1 0 7000 600000 0"),
+        (look(1), "look accepted 3 3 1 0"),
+        refused("reinstate", 23, reinstate(1)),
+        # The kept flag is 0: OFF clears both runs of unit 1. Unit 2's goes on.
+        at(7, sun(112.001, 1), "0 0 0 0 0 0 0", 107.0, "2 4 2 0 7000 600000 0"),
+        (look(1), "look accepted 0 0 0 0"),
+        (look(2), "look accepted 2 2 0 0"),
+        refused("declare", 22, declare(1, 112_001)),
+        # SMALL; then 99,000 - 93,000 = 6,000 too low: CLEAR, and the run is 0.
+        at(8, sun(108.001, 1), "1 4 1 0 6001 600000 0"),
+        at(9, sun(93.0, 1), "0 2 0 0 -6000 600000 0"),
+        # LARGE; then 6,001 too low, past the small trigger: CLEAR, and both runs are 0.
+        at(10, sun(112.001, 1), "1 5 1 1 10001 600000 0"),
+        at(11, sun(92.999, 1), "0 2 0 0 -6001 600000 0"),
+        # LARGE; then 99,000 - 50,000 = 49,000 too low and substituted: CLEAR all the same.
+        at(12, sun(112.001, 1), "1 5 1 1 10001 600000 0"),
+        at(13, sun(50.0, 1, quality=SUBSTITUTED), "0 2 0 0 -49000 600000 0"),
+        # Too high and substituted: at the trigger CLEAR, past it DOUBT, which leaves the run.
+        at(14, sun(108.0, 1, quality=SUBSTITUTED), "0 2 0 0 6000 600000 0"),
+        at(15, sun(108.001, 1), "1 4 1 0 6001 600000 0"),
+        at(16, sun(112.001, 0, quality=SUBSTITUTED), "1 3 1 0 10001 600000 0"),
+        # A flag of 2 is unreadable, although the kept one is 0: BLANK, and the run stands. Nothing is kept for the next.
+        at(17, sun(112.001, 2), "1 1 1 0 0 0 0"),
+        at(18, sun(112.001, 1), "1 1 1 0 0 0 0"),
+        # A flag of 255 is unreadable too, here with a kept flag of 1.
+        at(19, sun(112.001, 255), "1 1 1 0 0 0 0"),
+        at(20, sun(112.001, 0), "1 1 1 0 0 0 0"),
+        # Quality 2 goes before a kept flag of 0: BLANK. The flag of a bad line is kept, here 0 and then 1.
+        at(21, sun(0.0, 0, quality=BAD), "1 1 1 0 0 0 0"),
+        at(22, sun(0.0, 1, quality=BAD), "1 1 1 0 0 0 0"),
+        at(23, sun(112.001, 1), "2 5 2 1 10001 600000 0"),
+        # The operator declares it.
+        (declare(1, 70_000), "declare accepted"),
+        (look(1), "look accepted 4 0 0 70000"),
+        (look(2), "look accepted 0 0 0 0"),
+        # LARGE and OFF while declared: its level stands.
+        at(24, sun(112.001, 0), "4 5 0 0 10001 600000 70000"),
+        at(25, sun(112.001, 1), "4 0 0 0 0 0 70000"),
+        refused("declare", 22, declare(1, 0)),
+        (reinstate(1), "reinstate accepted"),
+        (look(1), "look accepted 0 0 0 0"),
+        refused("reinstate", 23, reinstate(1)),
+        # 111,000 - 102,000 = 9,000: SMALL. At small run 3 manual mode shows 2.
+        at(26, sun(111.0, 1), "1 4 1 0 9000 600000 0"),
+        at(27, sun(111.0, 1), "2 4 2 0 9000 600000 0"),
+        at(28, sun(111.0, 1), "2 4 3 0 9000 600000 0", mode=MANUAL),
+        # 11,000: LARGE in automatic mode. Small run 4 = Ds: declared at its MW.
+        at(29, sun(113.0, 1), "4 5 0 0 11000 600000 113000"),
+        (look(1), "look accepted 4 0 0 113000"),
+        at(30, sun(50.0, 1), "4 2 0 0 -49000 600000 113000"),
+        (reinstate(1), "reinstate accepted"),
+        # Four LARGE marks: small and large run come to their lengths together. The last one is 112,500 - 102,000 = 10,500.
+        at(31, sun(113.0, 1), "1 5 1 1 11000 600000 0"),
+        at(32, sun(113.0, 1), "2 5 2 2 11000 600000 0"),
+        at(33, sun(113.0, 1), "3 5 3 3 11000 600000 0"),
+        at(34, sun(112.5, 0), "4 5 0 0 10500 600000 112500"),
+        (reinstate(1), "reinstate accepted"),
+        # A jump: the kept flag of 0 is stale with its target, so BLANK.
+        at(40, sun(113.0, 1), "0 1 0 0 0 0 0", other="0 1 0 0 0 0 0"),
+        at(41, sun(113.0, 0), "1 5 1 1 11000 600000 0"),
+        at(50, sun(113.0, 1), "1 1 1 1 0 0 0", other="0 1 0 0 0 0 0"),
+        # A refused interval keeps no flag: the one of 50 stands. Nor does a refused load change anything.
+        refused("interval", 21, given(interval(50, AUTOMATIC, sun(113.0, 0), wide(100.0)), 32)),
+        refused("interval", 8, given(interval(51, AUTOMATIC, sun(113.0, 0), wide(100.0)), 31)),
+        refused("load", 30, load(register(LENGTHS, [(SEMI_SCHEDULED, 0), (GENERATING, 0)], [1]))),
+        at(51, sun(113.0, 0), "2 5 2 2 11000 600000 0"),
+        (look(1), "look accepted 2 2 2 0"),
+        # An accepted load starts afresh: nothing kept, and so no flag of 0, though 52 follows 51.
+        (load(registered), "load accepted 0"),
+        (look(1), "look accepted 0 0 0 0"),
+        at(52, sun(113.0, 1), "0 1 0 0 0 0 0", other="0 1 0 0 0 0 0"),
+        at(53, sun(113.0, 1), "1 5 1 1 11000 600000 0"),
+        # The flag of a substituted line is kept, here 0, and OFF goes before DOUBT; the flag of a bad line is kept too.
+        at(54, sun(113.0, 0, quality=SUBSTITUTED), "1 3 1 1 11000 600000 0"),
+        at(55, sun(113.0, 0, quality=SUBSTITUTED), "0 0 0 0 0 0 0"),
+        at(56, sun(0.0, 0, quality=BAD), "0 1 0 0 0 0 0"),
+        at(57, sun(113.0, 1), "0 0 0 0 0 0 0"),
+        at(58, sun(113.0, 1), "1 5 1 1 11000 600000 0"),
+    ]
+
+
+def solar_plant():
+    """64 semi-scheduled units in no chain. A flag of 0 is kept for the odd ones and 1 for the even ones; then the other way."""
+    def at(number, odd, even):
+        return interval(number, AUTOMATIC, *[plain(107.0, cap=odd), plain(107.0, cap=even)] * 32)
+
+    off, run_1 = "0 0 0 0 0 0 0", "1 5 1 1 7000 600000 0"
+    return [
+        (load(register(LENGTHS, [(SEMI_SCHEDULED, 0)] * 64)), "load accepted 0"),
+        accepted(at(1, 0, 1), *[f"1 {unit} 0 1 0 0 0 0 0" for unit in range(1, 65)]),
+        accepted(at(2, 1, 0), *[f"2 {unit} {off if unit % 2 else run_1}" for unit in range(1, 65)]),
+        accepted(at(3, 1, 0), *[f"3 {unit} {run_1 if unit % 2 else off}" for unit in range(1, 65)]),
+        (look(63), "look accepted 1 1 1 0"),
+        (look(64), "look accepted 0 0 0 0"),
+        refused("look", 10, look(65)),
+    ]
+
+
 # ---- two lists that are alike for one group
 
 
-def alike(others, between):
-    """Chain 1 -> 2 (generating unit, load) with its aggregate, point 4, is the group; unit 3 in no chain is outside of it.
+def alike(others, suns, between):
+    """Chain 1 -> 2 (generating unit, load) with its aggregate, point 5, is the group; units 3 (generating) and 4 (semi-scheduled)
+    in no chain are outside of it.
 
-    others: the five lines of unit 3 and what they print; between: operator calls outside the group, after each interval. Gives
-    the steps, each with whether it is the group's: the answer to an interval and the lines of points 1, 2 and 4 are.
+    others, suns: the five lines of unit 3 and of unit 4, and what they print; between: operator calls outside the group, after
+    each interval. Gives the steps, each with whether it is the group's: the answer to an interval and the lines of points 1, 2
+    and 5 are.
     """
-    registered = register(LENGTHS, [(GENERATING, 2), (LOAD, 0), (GENERATING, 0)], [1])
+    registered = register(LENGTHS, [(GENERATING, 2), (LOAD, 0), (GENERATING, 0), (SEMI_SCHEDULED, 0)], [1])
 
     def one(mw):  # up FCR 1,000, down FCL 2,000; own triggers as `wide` says
         return wide(mw, fcr=1_000, fcl=2_000, mode=2)
@@ -614,13 +757,12 @@ def alike(others, between):
 
     # The aggregate: kept MWB 100,000 - 40,000 = 60,000, up 1,000 + 500, down 2,000 + 0; MWO max(200,000, 100,000), ROC
     # max(9,000, 9,000): small trigger 600,000, large 1,000,000.
-    lines, printed = others
     steps = [(True, load(registered), "load accepted 2")]
 
     def at(number, first, second, *texts):
-        buffer = interval(number, AUTOMATIC, first, second, lines[number - 1])
-        steps.append((True, given(buffer, 64), "interval accepted", *texts[:2]))
-        steps.append((False, b"", printed[number - 1]))
+        buffer = interval(number, AUTOMATIC, first, second, others[0][number - 1], suns[0][number - 1])
+        steps.append((True, given(buffer, 80), "interval accepted", *texts[:2]))
+        steps.append((False, b"", others[1][number - 1], suns[1][number - 1]))
         steps.append((True, b"", texts[2]))
         steps.extend((False, *step) for step in between[number - 1])
 
@@ -628,48 +770,48 @@ def alike(others, between):
         steps.append((True, sent, text))
 
     # Nothing kept.
-    at(1, one(100.0), two(40.0), "1 1 0 1 0 0 0 0 0", "1 2 0 1 0 0 0 0 0", "1 4 0 1 0 0 0 0 0")
+    at(1, one(100.0), two(40.0), "1 1 0 1 0 0 0 0 0", "1 2 0 1 0 0 0 0 0", "1 5 0 1 0 0 0 0 0")
     at(
         2, one(109.0), two(33.0),
         "2 1 1 4 1 0 8000 600000 0",  # 109,000 - 101,000: SMALL
         "2 2 1 5 1 1 -6500 600000 0",  # -(39,500 - 33,000): LARGE
-        "2 4 1 5 1 1 14500 600000 0",  # 109,000 - 33,000 = 76,000; 76,000 - 61,500: LARGE
+        "2 5 1 5 1 1 14500 600000 0",  # 109,000 - 33,000 = 76,000; 76,000 - 61,500: LARGE
     )
     at(
         3, one(108.0), two(40.0, mode=1),
         "3 1 2 4 2 0 7000 600000 0",
         "3 2 0 0 0 0 0 0 0",  # conformance mode 1: OFF
-        "3 4 2 4 2 0 6500 600000 0",  # not all modes 0: 68,000 - 61,500, SMALL
+        "3 5 2 4 2 0 6500 600000 0",  # not all modes 0: 68,000 - 61,500, SMALL
     )
     named(declare(1, 90_000), "declare accepted")
     named(look(1), "look accepted 4 0 0 90000")
-    named(look(4), "look accepted 2 2 0 0")
+    named(look(5), "look accepted 2 2 0 0")
     named(declare(2, 0), "declare refused 22")
     # Refused in both lists: the number of the last accepted, then a report one record short.
-    for number, report, refusal in ((3, 64, 21), (4, 48, 8)):
-        buffer = interval(number, AUTOMATIC, one(50.0), two(90.0), lines[number])
+    for number, report, refusal in ((3, 80, 21), (4, 64, 8)):
+        buffer = interval(number, AUTOMATIC, one(50.0), two(90.0), others[0][number], suns[0][number])
         steps.append((True, given(buffer, report), f"interval refused {refusal}"))
     at(
         4, one(99.0), two(40.0),
         "4 1 4 2 0 0 0 600000 90000",  # 98,000 to 101,000: no error; declared
         "4 2 0 2 0 0 0 600000 0",  # the OFF line was kept
-        "4 4 0 2 0 0 0 600000 0",  # 59,000 within 58,000 to 61,500: CLEAR
+        "4 5 0 2 0 0 0 600000 0",  # 59,000 within 58,000 to 61,500: CLEAR
     )
     named(reinstate(1), "reinstate accepted")
-    named(reinstate(4), "reinstate refused 23")
+    named(reinstate(5), "reinstate refused 23")
     at(
         5, one(50.0), two(40.0, mwb=-1),
         "5 1 1 5 1 1 -48000 600000 0",  # -(98,000 - 50,000)
         "5 2 0 1 0 0 0 0 0",  # a load's target below 0 is unreadable: BLANK
-        "5 4 0 1 0 0 0 0 0",  # so is its aggregate
+        "5 5 0 1 0 0 0 0 0",  # so is its aggregate
     )
     named(look(1), "look accepted 1 1 1 0")
-    named(look(4), "look accepted 0 0 0 0")
+    named(look(5), "look accepted 0 0 0 0")
     return steps
 
 
 def alike_1():
-    """Unit 3 goes off target, is declared and reinstated."""
+    """Units 3 and 4 go off target, are declared and reinstated."""
     return alike(
         (
             [plain(100.0), plain(107.0), plain(93.0), plain(107.0), plain(107.0)],
@@ -681,22 +823,34 @@ def alike_1():
                 "5 3 2 5 2 2 7000 600000 0",
             ],
         ),
+        (
+            [plain(100.0, cap=1), plain(107.0, cap=1), plain(107.0, cap=1), plain(107.0, cap=0, mwb=200_000),
+             plain(107.0, cap=1)],
+            [
+                "1 4 0 1 0 0 0 0 0",
+                "2 4 1 5 1 1 7000 600000 0",
+                "3 4 2 5 2 2 7000 600000 0",
+                "4 4 4 5 0 0 7000 600000 50000",  # declared after 3
+                "5 4 4 0 0 0 0 0 50000",  # the kept flag is 0
+            ],
+        ),
         [
             [(look(3), "look accepted 0 0 0 0"), (look(0), "look refused 10")],
-            [(declare(3, 0), "declare refused 22"), (declare(5, 0), "declare refused 10")],
+            [(declare(3, 0), "declare refused 22"), (declare(6, 0), "declare refused 10")],
             [
                 (declare(3, -5), "declare accepted"),
                 (look(3), "look accepted 4 0 0 -5"),
                 (reinstate(3), "reinstate accepted"),
+                (declare(4, 50_000), "declare accepted"),
             ],
-            [],
-            [(declare(3, 107_000), "declare accepted")],
+            [(look(4), "look accepted 4 0 0 50000")],
+            [(declare(3, 107_000), "declare accepted"), (reinstate(4), "reinstate accepted")],
         ],
     )
 
 
 def alike_2():
-    """Unit 3 sends lines that cannot be read, are bad or are substituted; other operator calls."""
+    """Units 3 and 4 send lines that cannot be read, are bad or are substituted, 4 with other flags; other operator calls."""
     return alike(
         (
             [plain(100.0, mode=1), plain(107.0), plain(100.0), plain(0.0, quality=BAD), plain(107.0, quality=SUBSTITUTED)],
@@ -708,13 +862,135 @@ def alike_2():
                 "5 3 0 3 0 0 7000 600000 0",  # DOUBT
             ],
         ),
+        (
+            [plain(50.0, cap=0, mwb=30_000), plain(120.0, cap=0), plain(120.0, cap=255), plain(20.0, cap=1, mwb=500_000),
+             plain(60.0, cap=1, quality=SUBSTITUTED)],
+            [
+                "1 4 0 1 0 0 0 0 0",
+                "2 4 0 0 0 0 0 0 0",  # the kept flag is 0
+                "3 4 0 1 0 0 0 0 0",  # unreadable
+                "4 4 0 1 0 0 0 0 0",  # so nothing is kept
+                "5 4 0 2 0 0 -440000 600000 0",  # -(500,000 - 60,000), with a kept flag of 1: CLEAR
+            ],
+        ),
         [
             [],
-            [(reinstate(3), "reinstate refused 23")],
+            [(reinstate(3), "reinstate refused 23"), (declare(4, 1), "declare refused 22")],
             [(reinstate(2**32 - 1), "reinstate refused 10"), (declare(3, 128_000_001), "declare refused 11")],
-            [(look(3), "look accepted 0 0 0 0")],
-            [],
+            [(look(3), "look accepted 0 0 0 0"), (look(4), "look accepted 0 0 0 0")],
+            [(reinstate(4), "reinstate refused 23")],
         ],
+    )
+
+
+def alike_solar(others, between):
+    """Semi-scheduled unit 2 in no chain is the group. Outside of it: chain 1 -> 3 (generating unit, load) with its aggregate,
+    point 5, and generating unit 4.
+
+    others: for each interval the lines of units 1, 3 and 4, and what is printed of points 1, 3, 4 and 5; between: operator calls
+    outside the group after the interval of that number. Gives the steps as `alike` does.
+    """
+    registered = register(LENGTHS, [(GENERATING, 3), (SEMI_SCHEDULED, 0), (LOAD, 0), (GENERATING, 0)], [1])
+
+    def sun(mw, cap):  # on target from 98,000 to 101,000; triggers as `wide` says
+        return wide(mw, fcr=1_000, fcl=2_000, cap=cap)
+
+    steps = [(True, load(registered), "load accepted 2")]
+
+    def buffer_of(number, second, lines):
+        return interval(number, AUTOMATIC, lines[0], second, *lines[1:])
+
+    def at(number, second, text):
+        lines, printed = others[number - 1]
+        one, three, four, five = (f"{number} {point} {words}" for point, words in zip((1, 3, 4, 5), printed))
+        steps.append((True, given(buffer_of(number, second, lines), 80), "interval accepted"))
+        steps.append((False, b"", one))
+        steps.append((True, b"", f"{number} 2 {text}"))
+        steps.append((False, b"", three, four, five))
+        steps.extend((False, *step) for step in between.get(number, []))
+
+    def named(sent, text):
+        steps.append((True, sent, text))
+
+    at(1, sun(100.0, 1), "0 1 0 0 0 0 0")  # nothing kept
+    at(2, sun(109.0, 1), "1 4 1 0 8000 600000 0")  # 109,000 - 101,000: SMALL
+    at(3, sun(112.0, 0), "2 5 2 1 11000 600000 0")  # LARGE
+    named(look(2), "look accepted 2 2 1 0")
+    named(declare(2, 90_000), "declare accepted")
+    named(look(2), "look accepted 4 0 0 90000")
+    named(declare(2, 0), "declare refused 22")
+    # Refused in both lists: the number of the last accepted, then a report one record short. The flag of 3 stays kept.
+    for number, report, refusal in ((3, 80, 21), (4, 64, 8)):
+        buffer = buffer_of(number, sun(50.0, 1), others[number][0])
+        steps.append((True, given(buffer, report), f"interval refused {refusal}"))
+    at(4, sun(112.0, 1), "4 0 0 0 0 0 90000")  # the kept flag is 0: OFF; declared
+    named(reinstate(2), "reinstate accepted")
+    named(reinstate(2), "reinstate refused 23")
+    at(5, sun(109.0, 1), "1 4 1 0 8000 600000 0")
+    at(6, sun(50.0, 1), "0 2 0 0 -48000 600000 0")  # -(98,000 - 50,000), too low with a kept flag of 1: CLEAR
+    at(7, sun(112.0, 2), "0 1 0 0 0 0 0")  # unreadable
+    at(8, sun(112.0, 1), "0 1 0 0 0 0 0")  # nothing kept
+    at(9, sun(112.0, 1), "1 5 1 1 11000 600000 0")
+    at(10, sun(112.0, 1), "2 5 2 2 11000 600000 0")
+    at(11, sun(112.0, 1), "3 5 3 3 11000 600000 0")
+    at(12, sun(112.0, 1), "4 5 0 0 11000 600000 112000")  # run 4: declared at its MW
+    named(look(2), "look accepted 4 0 0 112000")
+    return steps
+
+
+def alike_solar_1():
+    """Unit 1 goes off target and its aggregate with it; either is declared and reinstated."""
+    def lines(mw):
+        return wide(mw, mode=2), wide(40.0, mwb=40_000, mode=2), wide(100.0)
+
+    # The aggregate: kept 100,000 - 40,000 = 60,000; MWO max(200,000, 200,000), ROC max(9,000, 9,000): triggers as `wide` says.
+    # 108,000 is 8,000 over for unit 1, and 108,000 - 40,000 = 68,000 for the aggregate: SMALL.
+    none, on = "0 1 0 0 0 0 0", "0 2 0 0 0 600000 0"
+    return alike_solar(
+        [
+            (lines(108.0), (none, none, none, none)),
+            (lines(108.0), ("1 4 1 0 8000 600000 0", on, on, "1 4 1 0 8000 600000 0")),
+            (lines(108.0), ("2 4 2 0 8000 600000 0", on, on, "2 4 2 0 8000 600000 0")),
+            (lines(108.0), ("4 4 0 0 8000 600000 5000", on, on, "3 4 3 0 8000 600000 0")),  # unit 1 was declared after 3
+            (lines(108.0), ("1 4 1 0 8000 600000 0", on, on, "4 4 0 0 8000 600000 68000")),  # the aggregate's run 4: declared
+            (lines(108.0), ("2 4 2 0 8000 600000 0", on, on, "1 4 1 0 8000 600000 0")),
+            *[(lines(100.0), (on, on, on, on))] * 6,
+        ],
+        {
+            1: [(declare(1, 0), "declare refused 22"), (look(0), "look refused 10")],
+            3: [(declare(1, 5_000), "declare accepted"), (look(5), "look accepted 2 2 0 0")],
+            4: [(reinstate(1), "reinstate accepted")],
+            5: [(reinstate(5), "reinstate accepted"), (look(5), "look accepted 0 0 0 0")],
+            7: [(look(6), "look refused 10"), (declare(4, 128_000_001), "declare refused 11")],
+            12: [(look(1), "look accepted 0 0 0 0")],
+        },
+    )
+
+
+def alike_solar_2():
+    """Unit 1 cannot be read, unit 3 is off, and unit 4 is declared for being too low; other operator calls."""
+    # Quality 3 is unreadable: BLANK for unit 1 and for its aggregate. Conformance mode 1 is OFF, ahead of nothing kept. Unit 4 is
+    # 100,000 - 93,000 = 7,000 too low: SMALL.
+    lines = wide(108.0, mode=2, quality=3), wide(33.0, mwb=40_000, mode=1), wide(93.0)
+    none, off = "0 1 0 0 0 0 0", "0 0 0 0 0 0 0"
+    texts = [
+        none,
+        "1 4 1 0 -7000 600000 0",
+        "2 4 2 0 -7000 600000 0",
+        "3 4 3 0 -7000 600000 0",
+        *["4 4 0 0 -7000 600000 93000"] * 5,  # run 4 at interval 5: declared; reinstated after 9
+        "1 4 1 0 -7000 600000 0",
+        "2 4 2 0 -7000 600000 0",
+        "3 4 3 0 -7000 600000 0",
+    ]
+    return alike_solar(
+        [(lines, (none, off, text, none)) for text in texts],
+        {
+            2: [(reinstate(4), "reinstate refused 23")],
+            5: [(look(4), "look accepted 4 0 0 93000"), (declare(4, 0), "declare refused 22")],
+            9: [(reinstate(4), "reinstate accepted"), (reinstate(5), "reinstate refused 23")],
+            12: [(declare(4, 0), "declare accepted"), (look(4), "look accepted 4 0 0 0")],
+        },
     )
 
 
@@ -776,8 +1052,8 @@ SCRIPT_ERRORS = {
 }
 
 LISTS = [every_status, operator_declaration, refusals_without_register, refusals_with_register, backlog, load_again, jump,
-         last_number, full_plant, limits]
-ALIKE = [alike_1, alike_2]
+         last_number, full_plant, limits, solar, solar_plant]
+ALIKE = [(alike_1, alike_2), (alike_solar_1, alike_solar_2)]
 # What `rt ci` runs the program on.
 CRATE_LIST = "every_status"
 
@@ -801,7 +1077,7 @@ def group_of(steps):
 def made():
     folders = {make.__name__: files_of(make()) for make in LISTS}
     folders |= {name: files_of(steps) for name, steps in SCRIPT_ERRORS.items()}
-    for make in ALIKE:
+    for make in sum(ALIKE, ()):
         steps = make()
         _, numbers = group_of(steps)
         folders[make.__name__] = files_of([step[1:] for step in steps]) | {
@@ -818,15 +1094,16 @@ def made():
 def main(arguments):
     if arguments not in ([], ["--check"]):
         sys.exit(__doc__)
-    first, second = (make() for make in ALIKE)
-    assert group_of(first)[0] == group_of(second)[0], "the group's lines differ between the two lists"
-    assert files_of([s[1:] for s in first])["expected"] != files_of([s[1:] for s in second])["expected"]
+    for pair in ALIKE:
+        first, second = (make() for make in pair)
+        assert group_of(first)[0] == group_of(second)[0], "the group's lines differ between the two lists"
+        assert files_of([s[1:] for s in first])["expected"] != files_of([s[1:] for s in second])["expected"]
     files = made()
     if not arguments:
         for path, content in files.items():
             path.parent.mkdir(parents=True, exist_ok=True)
             path.write_bytes(content)
-        print(f"{len(LISTS) + len(SCRIPT_ERRORS) + len(ALIKE) + 2} lists of calls")
+        print(f"{len(LISTS) + len(SCRIPT_ERRORS) + 2 * len(ALIKE) + 2} lists of calls")
         return 0
     differing = [path for path, content in files.items() if not path.is_file() or path.read_bytes() != content]
     differing += [path for path in (ROOT / "tests" / "calls").glob("*/*") if path not in files]

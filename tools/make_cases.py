@@ -14,7 +14,8 @@ import pathlib
 import subprocess
 import sys
 
-from plant_bytes import (AUTOMATIC, BAD, BIDIRECTIONAL, GENERATING, LOAD, MANUAL, SUBSTITUTED, interval, line, register)
+from plant_bytes import (AUTOMATIC, BAD, BIDIRECTIONAL, GENERATING, LOAD, MANUAL, SEMI_SCHEDULED, SUBSTITUTED, interval, line,
+                         register)
 
 ROOT = pathlib.Path(__file__).resolve().parent.parent / "tests" / "program"
 LENGTHS = (2, 3, 4, 2, 3, 4)
@@ -287,6 +288,89 @@ def floats():
     )
 
 
+def solar():
+    """Semi-scheduled unit 2 in no chain, beside the chain 1 -> 3 (generating unit, load), point 5, and generating unit 4.
+
+    All own triggers are as `wide` says. Unit 2 is on target from 100,000 - 500 to 100,000 + 1,000. The aggregate: target
+    100,000 - 40,000 = 60,000, MWO max(200,000, 200,000), ROC max(9,000, 9,000), so its triggers are 600,000 and 1,000,000 too.
+    """
+    def sun(mw, cap, **changes):
+        return wide(mw, fcr=1_000, fcl=500, cap=cap, **changes)
+
+    # What is printed of a point without runs: nothing kept; and on target.
+    none, on = "0 1 0 0 0 0 0", "0 2 0 0 0 600000 0"
+    # number, mode, MW of unit 1, lines of units 2 and 4 (unit 3 draws its 40 MW throughout); what is printed of points 1 to 5.
+    steps = [
+        # Nothing kept.
+        (1, AUTOMATIC, 100.0, sun(120.0, 0), wide(100.0), none, none, none, none, none),
+        # 19,000 too high, but the kept flag is 0: OFF. Unit 4 is 7,000 too high: SMALL.
+        (2, AUTOMATIC, 100.0, sun(120.0, 0), wide(107.0), on, "0 0 0 0 0 0 0", on, "1 4 1 0 7000 600000 0", on),
+        # This line's flag is only kept: OFF. It clears nothing of unit 4, which is BLANK for its quality.
+        (3, AUTOMATIC, 100.0, sun(120.0, 1), wide(0.0, quality=BAD), on, "0 0 0 0 0 0 0", on, "1 1 1 0 0 0 0", on),
+        # The kept flag is 1: 108,000 - 101,000 = 7,000, SMALL. Unit 4's bad line was kept: 7,000, small run 2.
+        (4, AUTOMATIC, 100.0, sun(108.0, 1), wide(107.0), on, "1 4 1 0 7000 600000 0", on, "2 4 2 0 7000 600000 0", on),
+        # 11,000: LARGE, small run 2, large run 1. Unit 1 is 8,000 too high and with it the aggregate, 68,000 against 60,000.
+        (5, AUTOMATIC, 108.0, sun(112.0, 0), wide(100.0), "1 4 1 0 8000 600000 0", "2 5 2 1 11000 600000 0", on, on,
+         "1 4 1 0 8000 600000 0"),
+        # The kept flag is 0: OFF clears both runs of unit 2 and of no other point.
+        (6, AUTOMATIC, 108.0, sun(112.0, 1), wide(100.0), "2 4 2 0 8000 600000 0", "0 0 0 0 0 0 0", on, on,
+         "2 4 2 0 8000 600000 0"),
+        # 107,000 - 101,000 = 6,000: 600,000 is not greater than 600,000; then one more.
+        (7, AUTOMATIC, 100.0, sun(107.0, 1), wide(100.0), on, "0 2 0 0 6000 600000 0", on, on, on),
+        (8, AUTOMATIC, 100.0, sun(107.001, 1), wide(100.0), on, "1 4 1 0 6001 600000 0", on, on, on),
+        # 99,500 - 93,500 = 6,000 too low, then 6,001: either is CLEAR, and the first clears the run.
+        (9, AUTOMATIC, 100.0, sun(93.5, 1), wide(100.0), on, "0 2 0 0 -6000 600000 0", on, on, on),
+        (10, AUTOMATIC, 100.0, sun(93.499, 1), wide(100.0), on, "0 2 0 0 -6001 600000 0", on, on, on),
+        # LARGE; then 99,500 - 20,000 = 79,500 too low, far past the large trigger: CLEAR, both runs 0. Unit 4 is as low: LARGE.
+        (11, AUTOMATIC, 100.0, sun(112.0, 1), wide(100.0), on, "1 5 1 1 11000 600000 0", on, on, on),
+        (12, AUTOMATIC, 100.0, sun(20.0, 1), wide(20.5), on, "0 2 0 0 -79500 600000 0", on, "1 5 1 1 -79500 600000 0", on),
+        # LARGE; DOUBT when substituted, and the runs stand; too low and substituted: CLEAR all the same.
+        (13, AUTOMATIC, 100.0, sun(112.0, 1), wide(100.0), on, "1 5 1 1 11000 600000 0", on, on, on),
+        (14, AUTOMATIC, 100.0, sun(112.0, 1, quality=SUBSTITUTED), wide(100.0), on, "1 3 1 1 11000 600000 0", on, on, on),
+        (15, AUTOMATIC, 100.0, sun(20.0, 1, quality=SUBSTITUTED), wide(100.0), on, "0 2 0 0 -79500 600000 0", on, on, on),
+        # LARGE; a flag of 2 is unreadable; then nothing is kept; then bad quality. The runs stand, and the bad line is kept.
+        (16, AUTOMATIC, 100.0, sun(112.0, 1), wide(100.0), on, "1 5 1 1 11000 600000 0", on, on, on),
+        (17, AUTOMATIC, 100.0, sun(112.0, 2), wide(100.0), on, "1 1 1 1 0 0 0", on, on, on),
+        (18, AUTOMATIC, 100.0, sun(112.0, 1), wide(100.0), on, "1 1 1 1 0 0 0", on, on, on),
+        (19, AUTOMATIC, 100.0, sun(112.0, 1, quality=BAD), wide(100.0), on, "1 1 1 1 0 0 0", on, on, on),
+        (20, AUTOMATIC, 100.0, sun(112.0, 0), wide(100.0), on, "2 5 2 2 11000 600000 0", on, on, on),
+        # A jump: the kept flag of 0 is stale like its target, so BLANK and not OFF; the runs stand.
+        (23, AUTOMATIC, 100.0, sun(112.0, 1), wide(100.0), none, "2 1 2 2 0 0 0", none, none, none),
+        # 7,000: SMALL, small run 3: NC-Pending. At 4 nothing is declared in manual mode, which shows 2.
+        (24, AUTOMATIC, 100.0, sun(108.0, 1), wide(100.0), on, "3 4 3 0 7000 600000 0", on, on, on),
+        (25, MANUAL, 100.0, sun(108.0, 1), wide(100.0), on, "2 4 4 0 7000 600000 0", on, on, on),
+        # 107,500 - 101,000 = 6,500: SMALL in automatic mode, small run 5: declared at its MW.
+        (26, AUTOMATIC, 100.0, sun(107.5, 0), wide(100.0), on, "4 4 0 0 6500 600000 107500", on, on, on),
+        # OFF, CLEAR and LARGE while declared: the level stands.
+        (27, AUTOMATIC, 100.0, sun(107.5, 1), wide(100.0), on, "4 0 0 0 0 0 107500", on, on, on),
+        (28, AUTOMATIC, 100.0, sun(20.0, 1), wide(100.0), on, "4 2 0 0 -79500 600000 107500", on, on, on),
+        (29, AUTOMATIC, 100.0, sun(112.0, 1), wide(100.0), on, "4 5 0 0 11000 600000 107500", on, on, on),
+    ]
+    load = wide(40.0, mwb=40_000, mode=2)
+    return (
+        register(LENGTHS, [(GENERATING, 3), (SEMI_SCHEDULED, 0), (LOAD, 0), (GENERATING, 0)], [1]),
+        [interval(number, mode, wide(one, mode=2), two, load, four) for number, mode, one, two, four, *_ in steps],
+        [f"{number} {point} {text}" for number, _, _, _, _, *printed in steps for point, text in enumerate(printed, 1)],
+    )
+
+
+def solar_alone():
+    """The worked example with a semi-scheduled unit and a cap flag of 1: 7,000 too low is CLEAR. Then a flag of 255."""
+    flags = [(10, 100.0, 1), (11, 107.0, 1), (12, 93.0, 1), (13, 107.0, 255), (14, 107.0, 1), (15, 107.0, 1)]
+    return (
+        register(LENGTHS, [(SEMI_SCHEDULED, 0)]),
+        [interval(number, AUTOMATIC, plain(mw, cap=cap)) for number, mw, cap in flags],
+        [
+            "10 1 0 1 0 0 0 0 0",
+            "11 1 1 5 1 1 7000 600000 0",
+            "12 1 0 2 0 0 -7000 600000 0",
+            "13 1 0 1 0 0 0 0 0",  # unreadable
+            "14 1 0 1 0 0 0 0 0",  # nothing kept
+            "15 1 1 5 1 1 7000 600000 0",
+        ],
+    )
+
+
 def refused_8_short_last():
     """The last buffer is 47 bytes."""
     return ONE_UNIT, EXAMPLE_BUFFERS[:2] + [EXAMPLE_BUFFERS[2][:47]], EXAMPLE_LINES[:2] + ["refused 8"]
@@ -365,6 +449,8 @@ CASES = {
     "runs": runs,
     "jump": jump,
     "floats": floats,
+    "solar": solar,
+    "solar_alone": solar_alone,
     "refused_8_short_last": refused_8_short_last,
     "refused_8_at_once": refused_8_at_once,
     "refused_9": refused_9,
@@ -379,12 +465,15 @@ CASES = {
     "register_2_units": register_refusal(2, changed(CHAIN_REGISTER, (0, 65))),
     "register_2_before_length": register_refusal(2, changed(CHAIN_REGISTER[:20], (1, 17))),
     "register_3": register_refusal(3, changed(CHAIN_REGISTER, (3, 4), (16, 0))),  # Ps = Ds; and an unknown kind
-    "register_4_kind": register_refusal(4, changed(CHAIN_REGISTER, (24, 4))),
+    "register_4_kind": register_refusal(4, changed(CHAIN_REGISTER, (24, 5))),
     "register_4_last_spare": register_refusal(4, changed(CHAIN_REGISTER, (31, 1), (17, 9))),  # goes before the index
     "register_5_next": register_refusal(5, changed(CHAIN_REGISTER, (25, 4), (21, 1))),  # unit 3, met by no chain
     "register_5_head": register_refusal(5, changed(CHAIN_REGISTER, (28, 0))),
     "register_6_loop": register_refusal(6, changed(CHAIN_REGISTER, (21, 1), (25, 3))),  # 2 -> 1; and unit 3's next
     "register_7": register_refusal(7, changed(CHAIN_REGISTER, (25, 3))),
+    "register_7_before_30": register_refusal(7, changed(CHAIN_REGISTER, (20, 4), (25, 3))),  # unit 2 of kind 4; unit 3's next
+    "register_30": register_refusal(30, changed(CHAIN_REGISTER, (20, 4))),  # unit 2, at the end of the chain
+    "register_30_head": register_refusal(30, changed(CHAIN_REGISTER, (16, 4), (24, 4))),  # unit 1; unit 3 may be of kind 4
 }
 
 

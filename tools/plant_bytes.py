@@ -3,7 +3,7 @@
 import struct
 
 # Kinds.
-GENERATING, LOAD, BIDIRECTIONAL = 1, 2, 3
+GENERATING, LOAD, BIDIRECTIONAL, SEMI_SCHEDULED = 1, 2, 3, 4
 # Quality of a line's telemetry.
 GOOD, SUBSTITUTED, BAD = 0, 1, 2
 # Mode of an interval.
@@ -22,10 +22,10 @@ def register(lengths, units, heads=()):
     return out
 
 
-def line(mw, *, mwb, mwo, fcr=0, fcl=0, bid=(3000, 3000), scada=(3.0, 3.0), quality=GOOD, mode=0):
+def line(mw, *, mwb, mwo, fcr=0, fcl=0, bid=(3000, 3000), scada=(3.0, 3.0), quality=GOOD, mode=0, cap=0):
     """One unit's line, 40 bytes. mw and scada in MW, all else in kW; bid and scada are (up, down)."""
     return (
-        bytes([quality, mode, 0, 0])  # 0 quality; 1 conformance mode; 2-3 zero
+        bytes([quality, mode, cap, 0])  # 0 quality; 1 conformance mode; 2 cap flag of kind 4, zero for the others; 3 zero
         + struct.pack("<i", mwb)  # 4 MWB, target
         + struct.pack("<I", mwo)  # 8 MWO, availability
         + struct.pack("<I", fcr)  # 12 FCR, regulation raise

@@ -5,9 +5,9 @@
   tools/trial_marks.py --check   write nothing; exit 1 where a file differs from what would be written
 
 Each case is a unit or an aggregate at one interval. Its answer (mark, error, small trigger, power) is stated
-here by hand from 01, "Triggers and errors" and "Marks and runs", with the arithmetic beside it; only a power is
-written as the sum of what was put in. The monitor's code is never run. Powers and rates are in kW, triggers in
-hundredths of a kW.
+here by hand from 01, "Triggers and errors" and "Marks and runs", and for kind 4 from 02, 2026-01, with the
+arithmetic beside it; only a power is written as the sum of what was put in. The monitor's code is never run.
+Powers and rates are in kW, triggers in hundredths of a kW.
 """
 import pathlib
 import struct
@@ -17,7 +17,8 @@ from lines import READINGS, nearest_kw, packed, write_or_check
 
 CRATE = pathlib.Path(__file__).resolve().parent.parent / "crates" / "trial_marks"
 GENERATING, LOAD, BIDIRECTIONAL = KINDS = (1, 2, 3)
-WORDS = {1: "generating unit", 2: "load", 3: "bidirectional unit"}
+SEMI_SCHEDULED = 4  # stands in no chain
+WORDS = {1: "generating unit", 2: "load", 3: "bidirectional unit", 4: "semi-scheduled unit"}
 
 # On target, with both triggers at 600,000: 3 x 100,000, 5 x 100,000 are below that, so the floor holds.
 PLAIN = {
@@ -35,7 +36,8 @@ PLAIN = {
     "ramp up": 3000,
     "ramp down": 3000,
 }
-UNREADABLE = {"byte 2": 1}
+UNREADABLE = {"byte 2": 1}  # of kinds 1 to 3; byte 2 of kind 4 is its cap flag
+FREE, CAPPED = {"byte 2": 0}, {"byte 2": 1}
 BAD, SUBSTITUTED = {"quality": 2}, {"quality": 1}
 UNASSESSED = ("OFF", "BLANK")
 NOTHING = None  # in a kept line's place
@@ -81,6 +83,10 @@ def unit(label, answer, now, kept, kind=GENERATING, chained=False):
     put(label, 1 if chained else 0, 1, [sight(kind, now, kept)], answer)
 
 
+def solar(label, answer, now, kept):
+    unit(label, answer, now, kept, SEMI_SCHEDULED)
+
+
 def member(kind, now, kept):
     """A member of an aggregate, with conformance mode 1 in both lines unless they say otherwise."""
     return sight(kind, {"mode": 1, **now}, kept if kept is NOTHING else {"mode": 1, **kept})
@@ -115,11 +121,11 @@ def table():
 def worked_examples():
     """The worked examples of 000, A.5.
 
-    Left out, since 01 leaves them out: a semi-scheduled unit's cap flag and its missing under-target error, and so a Cap
-    Aggregate below its target and the Net Scheduled thresholds of a Mixed Aggregate (all members count here); a bidirectional
-    unit's second availability and composite rates (a line has one MWO, and its rates come composed); opting in to aggregated
-    conformance by an individual non-conformance (an aggregate is assessed unless all modes are 0); the counters, which are no
-    part of a mark, and their reset to one where the error changes side.
+    Left out, since a semi-scheduled unit stands in no chain for now, so that A.5's semi-scheduled members are generating units
+    here and all members count: a Cap Aggregate below its target, and the Net Scheduled thresholds of a Mixed Aggregate. Left
+    out, since 01 leaves them out: a bidirectional unit's second availability and composite rates (a line has one MWO, and its
+    rates come composed); opting in to aggregated conformance by an individual non-conformance (an aggregate is assessed unless
+    all modes are 0); the counters, which are no part of a mark, and their reset to one where the error changes side.
     """
     # Individual unit: availability 200 MW, ramp rate 2 MW/min, target above MW. Large: 5% is 10, 4 x 2 is 8; min 8; max(6, 8) = 8.
     # Small: 3% is 6, 2 x 2 is 4; min 4; max(6, 4) = 6. Rates down are far off, so that ramp up shows.
@@ -152,6 +158,8 @@ def worked_examples():
     for mw, mark in ((55000, "CLEAR 5000"), (55001, "CLEAR 5001"), (56000, "CLEAR 6000"), (56001, "LARGE 6001")):
         now = {"mode": 2, "target": 50000, "MW": mw, "availability": 100000, **rates(1000, 2000)}
         unit(f"A.5 unit A of the mixed aggregate, MW {mw}", f"{mark} 600000 {mw}", now, {"target": 50000}, chained=True)
+        # and as what it is, a semi-scheduled unit with its cap flag set, in no chain
+        solar(f"A.5 solar unit A, MW {mw}", f"{mark} 600000 {mw}", {**now, "mode": 0}, {"target": 50000, **CAPPED})
 
     # Target Aggregate, target above MW: 5% of 200 is 10, 4 x max(2 ramp up of A, 4 ramp down of B) is 16; large 10 MW.
     # Small: 3% of 200 is 6, 2 x 4 is 8; 6 MW. Kept 150 - 100 = 50, FCL 10 of A: 10 MW over the target, 20 MW under it.
@@ -247,6 +255,86 @@ def edges():
         unit(f"{WORDS[kind]} with MW below zero", "LARGE -6001 600000 -6001", own_use, {"target": 0}, kind)
 
 
+# As RAISE_UP, but with a kept cap flag of 1, so that an error below the target is CLEAR.
+CAPPED_UP = RAISE_UP[:6] + (
+    (299000, "CLEAR 0"),
+    (298999, "CLEAR -1"),
+    (289000, "CLEAR -10000"),
+    (288999, "CLEAR -10001"),
+    (279000, "CLEAR -20000"),
+    (278999, "CLEAR -20001"),
+    (0, "CLEAR -299000"),  # -((300,000 - 1,000) - 0)
+)
+# The same, substituted.
+CAPPED_DOUBT = (
+    (303000, "CLEAR 0"),
+    (313000, "CLEAR 10000"),
+    (313001, "DOUBT 10001"),
+    (323001, "DOUBT 20001"),
+    (289000, "CLEAR -10000"),
+    (288999, "CLEAR -10001"),
+    (278999, "CLEAR -20001"),
+)
+
+
+def cap_flags():
+    """A semi-scheduled unit. `cap` in a label is the kept flag, `now` this line's, where that is another one.
+
+    The kept flag decides: with 0 it is OFF, with 1 an error above the target counts and one below is CLEAR. Before that comes
+    all that makes it BLANK.
+    """
+    target = {"target": 300000, "raise": 3000, "lower": 1000}
+    kept_1, kept_0 = {**target, **CAPPED}, {**target, **FREE}
+
+    def now(mw, flag, **changes):
+        return {"MW": mw, **APART, "byte 2": flag, **changes}
+
+    # a kept flag of 1, with the triggers and edges of `edges`
+    for mw, mark in CAPPED_UP:
+        solar(f"cap 1: MW {mw}", f"{mark} 1000000 {mw}", now(mw, 1), kept_1)
+    for mw, mark in CAPPED_DOUBT:
+        solar(f"cap 1: MW {mw} substituted", f"{mark} 1000000 {mw}", now(mw, 1, **SUBSTITUTED), kept_1)
+    for mw, mark in ((313001, "SMALL 10001"), (323001, "LARGE 20001"), (278999, "CLEAR -20001")):
+        solar(f"cap 1, now 0: MW {mw}", f"{mark} 1000000 {mw}", now(mw, 0), kept_1)
+    # a kept flag of 0: on target, and past the large trigger on both sides
+    for mw in (300000, 323001, 278999):
+        solar(f"cap 0: MW {mw}", "OFF", now(mw, 0), kept_0)
+    for mw in (323001, 278999):
+        solar(f"cap 0: MW {mw} substituted", "OFF", now(mw, 0, **SUBSTITUTED), kept_0)
+    solar("cap 0, now 1: MW 323001", "OFF", now(323001, 1), kept_0)
+    # bad quality, whatever the flags
+    for mw in (323001, 278999):
+        solar(f"cap 1: MW {mw} bad", "BLANK", now(mw, 1, **BAD), kept_1)
+    solar("cap 0: bad", "BLANK", now(323001, 0, **BAD), kept_0)
+    solar("cap 0, now 1: bad", "BLANK", now(323001, 1, **BAD), kept_0)
+    # nothing kept, whatever this line's flag; a flag of 2 or 255 is unreadable, in this line or in the one before
+    for flag in (0, 1):
+        solar(f"nothing kept, now {flag}", "BLANK", now(323001, flag), NOTHING)
+    for flag in (2, 255):
+        solar(f"cap 0, now {flag}", "BLANK", now(323001, flag), kept_0)
+        solar(f"cap 1, now {flag}", "BLANK", now(323001, flag), kept_1)
+        solar(f"cap {flag}, now 1", "BLANK", now(323001, 1), {**target, "byte 2": flag})
+    # what else is unreadable
+    solar("cap 0: MW not a number", "BLANK", now("7FC00000", 0), kept_0)
+    solar("cap 1: MW not a number", "BLANK", now("7FC00000", 1), kept_1)
+    solar("cap 0: mode 1", "BLANK", now(323001, 0, mode=1), kept_0)
+    solar("cap 0: byte 3 is 1", "BLANK", now(323001, 0, **{"byte 3": 1}), kept_0)
+    solar("cap 0: target -1", "BLANK", now(323001, 0, target=-1), kept_0)
+    solar("cap 1: byte 3 was 1", "BLANK", now(323001, 1), {**kept_1, "byte 3": 1})
+    solar("cap 0: byte 3 was 1", "BLANK", now(323001, 0), {**kept_0, "byte 3": 1})
+    solar("cap 1: target was -1", "BLANK", now(323001, 1), {**kept_1, "target": -1})
+    # a line of whatever quality is kept, and its flag with it
+    for quality in (BAD, SUBSTITUTED):
+        was = f"quality was {quality['quality']}"
+        solar(f"cap 0: {was}", "OFF", now(323001, 0), {**kept_0, **quality})
+        solar(f"cap 1: {was}", "LARGE 20001 1000000 323001", now(323001, 1), {**kept_1, **quality})
+    # (0 - 0) - (-6,001) = 6,001; (2,000,000 - 0) - (-2,000,000); 2,000,000 - (0 + 0), as a kept target is not below zero
+    fast = {"availability": 2000000, **rates(2000000, 2000000)}
+    solar("cap 1: own use", "CLEAR -6001 600000 -6001", {"MW": -6001}, {"target": 0, **CAPPED})
+    solar("cap 1: the least error", "CLEAR -4000000 6000000 -2000000", {"MW": -2000000, **fast}, {"target": 2000000, **CAPPED})
+    solar("cap 1: the greatest error", "LARGE 2000000 6000000 2000000", {"MW": 2000000, **fast}, {"target": 0, **CAPPED})
+
+
 def kept_or_present():
     """The error goes by the kept line, the triggers by this one."""
     # 107,000 - 100,000 = 7,000, although this line's target is met and its regulation would cover it
@@ -296,23 +384,28 @@ UP_SLOWER = {"availability": 2000000, "ramp up": 7000, "bid up": 9000, "ramp dow
 
 def rates_of_change():
     """This line's target against MW decides between the rates; a load's own is not turned round."""
-    for kind in KINDS:
+    for kind in (*KINDS, SEMI_SCHEDULED):
+        kept = CAPPED if kind == SEMI_SCHEDULED else {}
         for chained, head in ((False, {}), (True, {"mode": 2})):
+            if chained and kind == SEMI_SCHEDULED:
+                continue
             where = WORDS[kind] + (" in a chain" if chained else "")
             # up: min(20,000, 10,000) -> 200 x 10,000; down: min(6,000, 8,000) -> 200 x 6,000; equal: 6,000
             for words, target, trigger in (("above", 100001, 2000000), ("below", 99999, 1200000), ("equal", 100000, 1200000)):
                 now = {"target": target, **DOWN_SLOWER, **head}
-                unit(f"{where}, {words}, down slower", f"CLEAR 0 {trigger} 100000", now, {}, kind, chained)
+                unit(f"{where}, {words}, down slower", f"CLEAR 0 {trigger} 100000", now, kept, kind, chained)
             # up: min(7,000, 9,000) -> 200 x 7,000; down: min(12,000, 11,000) -> 200 x 11,000; equal: 7,000
             for words, target, trigger in (("above", 100001, 1400000), ("below", 99999, 2200000), ("equal", 100000, 1400000)):
                 now = {"target": target, **UP_SLOWER, **head}
-                unit(f"{where}, {words}, up slower", f"CLEAR 0 {trigger} 100000", now, {}, kind, chained)
+                unit(f"{where}, {words}, up slower", f"CLEAR 0 {trigger} 100000", now, kept, kind, chained)
     for words, target, trigger in (("above", -99999, 1400000), ("below", -100001, 2200000), ("equal", -100000, 1400000)):
         now = {"target": target, "MW": -100000, **UP_SLOWER}
         unit(f"below zero, {words}", f"CLEAR 0 {trigger} -100000", now, {"target": -100000}, BIDIRECTIONAL)
     # the kept target would say the opposite: -200,000 against large 400 x 6,000, and 100,000 against 400 x 10,000
     unit("this target decides, below", "LARGE -200000 1200000 100000", {"target": 99999, **DOWN_SLOWER}, {"target": 300000})
     unit("this target decides, above", "LARGE 100000 2000000 100000", {"target": 100001, **DOWN_SLOWER}, {"target": 0})
+    kept = {"target": 300000, **CAPPED}
+    solar("cap 1: this target decides, below", "CLEAR -200000 1200000 100000", {"target": 99999, **DOWN_SLOWER}, kept)
     others = {"ramp up": 5000, "bid up": 6000, "ramp down": 7000, "bid down": 8000}
     for name in others:  # 200 x 4,000
         now = {"availability": 2000000, **others, name: 4000}
@@ -631,7 +724,7 @@ def largest():
 
 
 def main(arguments):
-    for section in (table, worked_examples, edges, kept_or_present, triggers, rates_of_change, unit_marks):
+    for section in (table, worked_examples, edges, cap_flags, kept_or_present, triggers, rates_of_change, unit_marks):
         section()
     for section in (aggregate_edges, sums, directions, sides, aggregate_marks, largest):
         section()

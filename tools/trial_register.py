@@ -1,5 +1,5 @@
 #!/usr/bin/env python3
-"""Cases for crates/trial_register, worked out by hand from document 01.
+"""Cases for crates/trial_register, worked out by hand from document 01, and for kind 4 from 02, 2026-01.
 
   tools/trial_register.py            writes the crate's stdin and stdout
   tools/trial_register.py --check    fails if they differ from what it would write
@@ -71,6 +71,18 @@ def spare(place):
     return r
 
 
+def solar(numbers, nexts=(2, 0, 0, 0), heads=(1, 3)):
+    """A register with the units of these numbers, counted from 1, of kind 4."""
+    r = Register(nexts, heads)
+    for number in numbers:
+        r.units[number - 1][0] = 4
+    return r
+
+
+# Nexts and heads of all 64 units: one chain 1 -> 2 -> .. -> 64; 16 chains of 4, 1 -> 2 -> 3 -> 4 and so on.
+RISING = [*range(2, 65), 0], (1,)
+FOURS = [0 if i % 4 == 3 else i + 2 for i in range(64)], range(1, 62, 4)
+
 # ---- accepted registers, and n and m at their ends
 accepted('good', Register(), 3)
 refused('n 0, m 0', Register((), ()), 2)
@@ -83,11 +95,25 @@ accepted('n 16, m 16', Register((0,) * 16, range(1, 17)), 16)
 refused('n 17, m 17', Register((0,) * 17, range(1, 18)), 2)
 refused('n 64, m 255, header alone', changed(units=[], heads=[], n=64, m=255), 2)
 accepted('chain of 1', Register((0, 0), (2,)), 1)
-accepted('chain of 64, rising', Register([*range(2, 65), 0], (1,)), 64)
+accepted('chain of 64, rising', Register(*RISING), 64)
 accepted('chain of 64, falling', Register(range(0, 64), (64,)), 64)
-accepted('16 chains of 4', Register([0 if i % 4 == 3 else i + 2 for i in range(64)], range(1, 62, 4)), 64)
+accepted('16 chains of 4', Register(*FOURS), 64)
 accepted('last unit as next', Register((4, 0, 0, 0), (1, 2)), 3)
 accepted('last unit as head', Register((0, 0, 0, 0), (4,)), 1)
+
+# ---- kind 4 in no chain: it is no step of a chain, so no visit
+accepted('kind 4 in the last unit, in no chain', solar([4]), 3)
+accepted('kind 4 in the first unit, in no chain', solar([1], (0, 3, 0, 0), (2,)), 2)
+accepted('kind 4 in the first unit, in no chain, n 17, m 16', solar([1], (0,) * 17, range(2, 18)), 16)
+accepted('kind 4 between two chains', solar([3], (2, 0, 0, 5, 0), (1, 4)), 4)
+accepted('kind 4 that a chain passes over', solar([2], (3, 0, 4, 0), (1,)), 3)
+accepted('kind 4 before and behind a chain', solar([1, 4], (0, 3, 0, 0), (2,)), 2)
+accepted('n 1, m 0, kind 4', solar([1], (0,), ()), 0)
+accepted('n 64, m 0, all of kind 4', solar(range(1, 65), (0,) * 64, ()), 0)
+accepted('n 64, m 0, the last of kind 4', solar([64], (0,) * 64, ()), 0)
+accepted('kind 4 in unit 64, a chain of the other 63', solar([64], [*range(2, 64), 0, 0], (1,)), 63)
+accepted('kind 4 in unit 1, a chain of the other 63', solar([1], [0, *range(3, 65), 0], (2,)), 63)
+accepted('kind 4 in 63 units, a chain of one', solar(range(2, 65), (0,) * 64, (1,)), 1)
 
 # ---- 1
 refused('empty', changed(cut=40), 1)
@@ -115,8 +141,14 @@ accepted('run lengths to 255', changed(small=[253, 254, 255], large=[2, 3, 255])
 
 # ---- 4
 refused('kind 0 in the first unit', unit(0, 0, 0), 4)
-refused('kind 4 in the last unit', unit(3, 0, 4), 4)
+refused('kind 0 in the last unit, in no chain', unit(3, 0, 0), 4)
+refused('kind 5 in the first unit', unit(0, 0, 5), 4)
+refused('kind 5 in the last unit, in no chain', unit(3, 0, 5), 4)
+refused('kind 5, n 1, m 0', changed(units=[[5, 0, 0, 0]], heads=[]), 4)
 refused('kind 255', unit(1, 0, 255), 4)
+refused('kind 255 in the last unit, in no chain', unit(3, 0, 255), 4)
+refused('byte 2 of a unit of kind 4 in no chain', changed(units=[[1, 0, 0, 0], [4, 0, 1, 0]], heads=[[1, 0, 0, 0]]), 4)
+refused('byte 3 of a unit of kind 4 in no chain', changed(units=[[1, 0, 0, 0], [4, 0, 0, 1]], heads=[[1, 0, 0, 0]]), 4)
 for place in range(8):
     refused(f'header byte {8 + place}', spare(place), 4)
 refused('byte 2 of the first unit', unit(0, 2, 1), 4)
@@ -154,8 +186,54 @@ refused('next set in the first unit, in no chain', Register((2, 0, 0, 0), (2, 3)
 refused('a loop among units in no chain', Register((2, 0, 4, 3), (1,)), 7)
 refused('a loop of one in no chain', Register((0, 2), (1,)), 7)
 refused('next set, and no chain at all', Register((2, 0), ()), 7)
+refused('next set in a unit of kind 4 in no chain', solar([4], (2, 0, 0, 3), (1, 3)), 7)
+refused('a unit of kind 4 in no chain that is its own next', solar([1], (1, 0), (2,)), 7)
+refused('next set to a unit of kind 4, both in no chain', solar([4], (2, 0, 4, 0), (1,)), 7)
+refused('a loop among units of kind 4 in no chain', solar([3, 4], (2, 0, 4, 3), (1,)), 7)
+refused('next set in units of kind 4, and no chain at all', solar([1, 2], (2, 0), ()), 7)
 
-# ---- two refusals in one register: the first in 01's order is given
+# ---- 30: kind 4 in a chain, wherever it stands in whichever chain
+refused('kind 4 as head of the first chain', solar([1]), 30)
+refused('kind 4 at the end of the first chain', solar([2]), 30)
+refused('kind 4 as the only unit of the last chain', solar([3]), 30)
+refused('kind 4 as the only unit of the only chain', solar([1], (0,), (1,)), 30)
+refused('kind 4 as the only unit of a chain, others in no chain', solar([2], (0, 0, 0), (2,)), 30)
+refused('kind 4 in the middle of the only chain', solar([2], (2, 3, 0, 0), (1,)), 30)
+refused('kind 4 at the end of the only chain', solar([3], (2, 3, 0, 0), (1,)), 30)
+refused('kind 4 as head of the last chain', solar([4], (2, 3, 0, 5, 6, 0), (1, 4)), 30)
+refused('kind 4 in the middle of the last chain', solar([5], (2, 3, 0, 5, 6, 0), (1, 4)), 30)
+refused('kind 4 at the end of the last chain', solar([6], (2, 3, 0, 5, 6, 0), (1, 4)), 30)
+refused('kind 4 in the last chain, whose head has the lower number', solar([1], (2, 0, 0, 0), (3, 1)), 30)
+refused('kind 4 as the 1st of a chain of 64', solar([1], *RISING), 30)
+refused('kind 4 as the 64th of a chain of 64', solar([64], *RISING), 30)
+refused('kind 4 as the 64th of a falling chain of 64', solar([1], range(0, 64), (64,)), 30)
+refused('kind 4 as the 33rd of a chain of 64', solar([33], *RISING), 30)
+refused('kind 4 in the 16th of 16 chains of 1', solar([16], (0,) * 16, range(1, 17)), 30)
+refused('kind 4 as head of the 16th of 16 chains', solar([61], *FOURS), 30)
+refused('kind 4 at the end of the 16th of 16 chains', solar([64], *FOURS), 30)
+refused('kind 4 in the middle of the 8th of 16 chains', solar([30], *FOURS), 30)
+refused('kind 4 in all of a chain of 64', solar(range(1, 65), *RISING), 30)
+refused('kind 4 in a chain and, of a higher number, in none', solar([1, 4]), 30)
+refused('kind 4 in a chain and, of a lower number, in none', solar([1, 3], (0, 3, 0, 0), (2,)), 30)
+refused('kind 4 in both chains', solar([2, 3]), 30)
+
+# ---- 7 goes before 30, and 6 before both
+refused('next in no chain behind kind 4 in a chain', solar([1], (2, 0, 0, 4), (1, 3)), 7)
+refused('next in no chain before kind 4 in a chain', solar([4], (1, 3, 4, 0), (2,)), 7)
+refused('next in no chain of kind 4, behind kind 4 in a chain', solar([2, 4], (2, 0, 0, 3), (1, 3)), 7)
+refused('next in no chain of kind 4, before kind 4 in a chain', solar([1, 2], (3, 3, 0, 0), (2,)), 7)
+refused('next in no chain in unit 64, kind 4 as head', solar([1], (0,) * 63 + (1,), (1,)), 7)
+refused('a loop of kind 4 in no chain, kind 4 in a chain', solar([1, 3, 4], (2, 0, 4, 3), (1,)), 7)
+refused('a loop of one of kind 4 in a chain', solar([1], (1, 0), (1,)), 6)
+refused('a loop of three with kind 4 as head', solar([1], (2, 3, 1, 0), (1,)), 6)
+refused('kind 4 in the first chain, the last one runs into it', solar([1], (2, 0, 2, 0), (1, 3)), 6)
+
+# ---- 4 and 5 look at the whole register before 30 does
+refused('kind 4 in a chain, kind 5 in none', changed(units=[[4, 0, 0, 0], [5, 0, 0, 0]], heads=[[1, 0, 0, 0]]), 4)
+refused('kind 5 in a chain, kind 4 too', changed(units=[[4, 2, 0, 0], [5, 0, 0, 0]], heads=[[1, 0, 0, 0]]), 4)
+refused('kind 4 in a chain, next above n in no chain', changed(units=[[4, 0, 0, 0], [1, 3, 0, 0]], heads=[[1, 0, 0, 0]]), 5)
+
+# ---- two refusals in one register: the first in 01's order is given, and 30 comes last
 FLAWS = {
     'n 65': lambda r: setattr(r, 'units', r.units + [[1, 0, 0, 0]] * 61),
     'length': lambda r: setattr(r, 'tail', b'\0'),
@@ -164,6 +242,7 @@ FLAWS = {
     'next above n in the first unit': lambda r: r.units[0].__setitem__(1, 255),
     'equal heads': lambda r: r.heads[1].__setitem__(0, 1),
     'next in a unit in no chain': lambda r: r.units[3].__setitem__(1, 4),
+    'kind 4 as a head': lambda r: r.units[0].__setitem__(0, 4),
 }
 
 
@@ -180,21 +259,28 @@ two('n 65', 'spare in the last head', 2)
 two('n 65', 'next above n in the first unit', 2)
 two('n 65', 'equal heads', 2)
 two('n 65', 'next in a unit in no chain', 2)
+two('n 65', 'kind 4 as a head', 2)
 two('length', 'run lengths', 1)
 two('length', 'spare in the last head', 1)
 two('length', 'next above n in the first unit', 1)
 two('length', 'equal heads', 1)
 two('length', 'next in a unit in no chain', 1)
+two('length', 'kind 4 as a head', 1)
 two('run lengths', 'spare in the last head', 3)
 two('run lengths', 'next above n in the first unit', 3)
 two('run lengths', 'equal heads', 3)
 two('run lengths', 'next in a unit in no chain', 3)
+two('run lengths', 'kind 4 as a head', 3)
 two('spare in the last head', 'next above n in the first unit', 4)
 two('spare in the last head', 'equal heads', 4)
 two('spare in the last head', 'next in a unit in no chain', 4)
+two('spare in the last head', 'kind 4 as a head', 4)
 two('next above n in the first unit', 'equal heads', 5)
 two('next above n in the first unit', 'next in a unit in no chain', 5)
+two('next above n in the first unit', 'kind 4 as a head', 5)
 two('equal heads', 'next in a unit in no chain', 6)
+two('equal heads', 'kind 4 as a head', 6)
+two('next in a unit in no chain', 'kind 4 as a head', 7)
 refused('15 bytes; n 0', changed(n=0, cut=25), 1)
 refused('15 bytes; run lengths', changed(small=[2, 2, 3], cut=25), 1)
 refused('15 bytes; spare in the header', changed(spare=[1] + [0] * 7, cut=25), 1)

@@ -109,15 +109,33 @@ pub fn assess_unit(kind: Kind, member: bool, line: Option<&Line>, kept: Option<&
     };
     let (up, down) = match kind {
         Kind::Load => (kept.lower, kept.raise),
-        Kind::Generating | Kind::Bidirectional => (kept.raise, kept.lower),
+        Kind::Generating | Kind::Bidirectional | Kind::SemiScheduled => (kept.raise, kept.lower),
     };
     let rate = rate(line.target.cmp(&line.power), line.ramp_up, line.ramp_down);
-    judge(
+    let found = judge(
         line.power,
         error(line.power, kept.target, up, down),
         Triggers::of(line.availability, rate),
         line.quality == Quality::Substituted,
-    )
+    );
+    if !member && kind == Kind::SemiScheduled {
+        by_cap(found, kept)
+    } else {
+        found
+    }
+}
+
+/// A semi-scheduled unit's assessment, given that of a generating unit. The flag is the kept one: it came with the target.
+/// Uncapped it is OFF; capped only a positive error counts, and a negative one is CLEAR whatever the quality.
+#[inline(always)]
+fn by_cap(found: Assessment, kept: &Kept) -> Assessment {
+    if kept.cap_flag == 0 {
+        Assessment::without_error(Mark::Off)
+    } else if found.error < 0 {
+        Assessment { mark: Mark::Clear, ..found }
+    } else {
+        found
+    }
 }
 
 /// Sums over the members of one side of an aggregate: kinds 1 and 3, or kind 2.
@@ -250,6 +268,7 @@ mod tests {
     const ORDINARY: Line = Line {
         quality: Quality::Good,
         mode: 2,
+        cap_flag: 0,
         target: 100_000,
         availability: 100_000,
         raise: 5_000,
@@ -258,7 +277,7 @@ mod tests {
         ramp_up: 3_000,
         ramp_down: 3_000,
     };
-    const KEPT: Kept = Kept { target: 100_000, raise: 5_000, lower: 0 };
+    const KEPT: Kept = Kept { target: 100_000, raise: 5_000, lower: 0, cap_flag: 0 };
 
     fn unit(kind: Kind, line: Line) -> (Mark, i32) {
         let found = assess_unit(kind, false, Some(&line), Some(&KEPT));
@@ -307,6 +326,85 @@ mod tests {
         assert_eq!(at(111_000, Quality::Substituted), Mark::Clear);
         assert_eq!(at(111_001, Quality::Substituted), Mark::Doubt);
         assert_eq!(at(115_001, Quality::Substituted), Mark::Doubt);
+    }
+
+    const CAPPED: Kept = Kept { lower: 2_000, cap_flag: 1, ..KEPT };
+    const UNCAPPED: Kept = Kept { cap_flag: 0, ..CAPPED };
+
+    #[test]
+    fn semi_scheduled_under_a_cap() {
+        use Mark::*;
+        // MWO 200,000: small 600,000, large 1,000,000. Without error from 98,000 to 105,000.
+        for (power, error, good, substituted) in [
+            (105_000, 0, Clear, Clear),
+            (105_001, 1, Clear, Clear),
+            (111_000, 6_000, Clear, Clear),
+            (111_001, 6_001, Small, Doubt),
+            (115_000, 10_000, Small, Doubt),
+            (115_001, 10_001, Large, Doubt),
+            (2_000_000, 1_895_000, Large, Doubt),
+            (98_000, 0, Clear, Clear),
+            (97_999, -1, Clear, Clear),
+            (92_000, -6_000, Clear, Clear),
+            (91_999, -6_001, Clear, Clear),
+            (88_000, -10_000, Clear, Clear),
+            (87_999, -10_001, Clear, Clear),
+            (-2_000_000, -2_098_000, Clear, Clear),
+        ] {
+            for (quality, mark) in [(Quality::Good, good), (Quality::Substituted, substituted)] {
+                // This line's own flag is only kept.
+                for cap_flag in [0, 1] {
+                    let line = Line {
+                        quality,
+                        mode: 0,
+                        cap_flag,
+                        availability: 200_000,
+                        power,
+                        ramp_up: 9_000,
+                        ramp_down: 9_000,
+                        ..ORDINARY
+                    };
+                    let found = |kept| assess_unit(Kind::SemiScheduled, false, Some(&line), Some(kept));
+                    assert_eq!(found(&CAPPED), Assessment { mark, error, trigger: 600_000, power });
+                    assert_eq!(found(&UNCAPPED), Assessment::without_error(Off));
+                }
+            }
+        }
+    }
+
+    #[test]
+    fn semi_scheduled_trigger_below_target() {
+        // A CLEAR below target reports the trigger of that direction: ramp up 6,000 below, ramp down 9,000 above.
+        let at = |power| {
+            let line = Line { mode: 0, availability: 900_000, power, ramp_up: 6_000, ramp_down: 9_000, ..ORDINARY };
+            let found = assess_unit(Kind::SemiScheduled, false, Some(&line), Some(&CAPPED));
+            (found.mark, found.error, found.trigger)
+        };
+        assert_eq!(at(80_000), (Mark::Clear, -18_000, 1_200_000));
+        assert_eq!(at(86_000), (Mark::Clear, -12_000, 1_200_000));
+        assert_eq!(at(85_999), (Mark::Clear, -12_001, 1_200_000));
+        assert_eq!(at(123_000), (Mark::Clear, 18_000, 1_800_000));
+        assert_eq!(at(123_001), (Mark::Small, 18_001, 1_800_000));
+        assert_eq!(at(141_000), (Mark::Small, 36_000, 1_800_000));
+        assert_eq!(at(141_001), (Mark::Large, 36_001, 1_800_000));
+    }
+
+    #[test]
+    fn order_of_semi_scheduled_marks() {
+        let line = |quality| Line { quality, mode: 0, power: 120_000, ..ORDINARY };
+        let mark =
+            |line: Option<Line>, kept: Option<&Kept>| assess_unit(Kind::SemiScheduled, false, line.as_ref(), kept).mark;
+        // Unreadable, quality 2 and nothing kept go before the kept flag.
+        for kept in [Some(&CAPPED), Some(&UNCAPPED), None] {
+            assert_eq!(mark(None, kept), Mark::Blank);
+            assert_eq!(mark(Some(line(Quality::Bad)), kept), Mark::Blank);
+        }
+        for quality in [Quality::Good, Quality::Substituted] {
+            assert_eq!(mark(Some(line(quality)), None), Mark::Blank);
+            assert_eq!(mark(Some(line(quality)), Some(&UNCAPPED)), Mark::Off);
+        }
+        assert_eq!(mark(Some(line(Quality::Good)), Some(&CAPPED)), Mark::Large);
+        assert_eq!(mark(Some(line(Quality::Substituted)), Some(&CAPPED)), Mark::Doubt);
     }
 
     #[test]
@@ -403,7 +501,7 @@ mod tests {
             ramp_down: 2_000_000,
             ..ORDINARY
         };
-        let kept = Kept { target: -2_000_000, raise: 0, lower: 2_000_000 };
+        let kept = Kept { target: -2_000_000, raise: 0, lower: 2_000_000, cap_flag: 0 };
         let mut sums = Aggregate::default();
         for _ in 0..64 {
             sums.add(Kind::Bidirectional, Some(&line), Some(&kept));
@@ -414,7 +512,7 @@ mod tests {
             (Mark::Large, 256_000_000, 384_000_000, 128_000_000)
         );
         let low = Line { power: -2_000_000, ..line };
-        let kept = Kept { target: 2_000_000, raise: 2_000_000, lower: 0 };
+        let kept = Kept { target: 2_000_000, raise: 2_000_000, lower: 0, cap_flag: 0 };
         let mut sums = Aggregate::default();
         for _ in 0..64 {
             sums.add(Kind::Bidirectional, Some(&low), Some(&kept));
@@ -440,7 +538,7 @@ mod tests {
         assert_eq!(unit_mark(1, &earlier, &line(111.001)), 5);
         assert_eq!(unit_mark(2, &earlier, &line(89.0)), 2);
         assert_eq!(unit_mark(2, &earlier, &line(88.999)), 5);
-        for kind in [0, 4, 257, u32::MAX] {
+        for kind in [0, 5, 6, 255, 257, 260, u32::MAX] {
             assert_eq!(unit_mark(kind, &earlier, &later), 6);
         }
         assert_eq!(unit_mark(1, &earlier[..39], &later), 6);
@@ -455,5 +553,37 @@ mod tests {
         bad[0] = 2;
         assert_eq!(unit_mark(1, &bad, &line(112.0)), 5);
         assert_eq!(unit_mark(1, &earlier, &bad), 1);
+        // Kind 4: flags in the earlier and in this line, power at the triggers on either side and just past them.
+        let flagged = |power: f32, quality: u8, cap_flag: u8| {
+            let mut bytes = line(power);
+            (bytes[0], bytes[2]) = (quality, cap_flag);
+            bytes
+        };
+        for (power, good, substituted) in
+            [(111.0, 2, 2), (111.001, 5, 3), (100.0, 2, 2), (94.0, 2, 2), (93.999, 2, 2), (-2_000.0, 2, 2)]
+        {
+            for (quality, mark) in [(0, good), (1, substituted), (2, 1), (3, 1)] {
+                for earlier_quality in [0, 1, 2] {
+                    let found =
+                        |kept, own| unit_mark(4, &flagged(100.0, earlier_quality, kept), &flagged(power, quality, own));
+                    for own in [0, 1] {
+                        assert_eq!(found(0, own), if quality < 2 { 0 } else { 1 });
+                        assert_eq!(found(1, own), mark);
+                        assert_eq!(found(2, own), 1);
+                        assert_eq!(found(255, own), 1);
+                    }
+                    for (kept, own) in [0, 1, 2, 255].iter().flat_map(|&kept| [(kept, 2), (kept, 255)]) {
+                        assert_eq!(found(kept, own), 1);
+                    }
+                }
+            }
+        }
+        assert_eq!(unit_mark(4, &earlier[..39], &line(100.0)), 6);
+        assert_eq!(unit_mark(4, &earlier, &[0; 41]), 6);
+        // For the other kinds a flag of 1 makes the line unreadable.
+        for kind in 1..=3 {
+            assert_eq!(unit_mark(kind, &flagged(100.0, 0, 1), &line(100.0)), 1);
+            assert_eq!(unit_mark(kind, &line(100.0), &flagged(100.0, 0, 1)), 1);
+        }
     }
 }

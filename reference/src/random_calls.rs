@@ -79,14 +79,29 @@ struct Unit {
     raise: u32,
     lower: u32,
     rate: i64,
+    cap_flag: u8,
+    /// Intervals left under this cap flag.
+    cap_left: u32,
     /// Target, raise and lower of the line sent last.
     sent: Option<(i64, u32, u32)>,
 }
 
 struct Sketch {
     units: Vec<Unit>,
+    /// The aggregates in order, then the units in no chain.
     groups: Vec<Group>,
     aggregates: usize,
+}
+
+impl Sketch {
+    /// Units in no chain.
+    fn loners(&self) -> Vec<usize> {
+        self.groups.iter().filter(|group| group.aggregate.is_none()).flat_map(|group| group.units.clone()).collect()
+    }
+
+    fn semi_scheduled(&self) -> Vec<usize> {
+        (0..self.units.len()).filter(|&unit| self.units[unit].kind == Kind::SemiScheduled).collect()
+    }
 }
 
 /// A line before it becomes bytes.
@@ -94,6 +109,7 @@ struct Sketch {
 struct Draft {
     quality: u8,
     mode: u8,
+    cap_flag: u8,
     target: i64,
     availability: u32,
     raise: u32,
@@ -121,6 +137,7 @@ impl Draft {
         let mut bytes = [0; 40];
         bytes[0] = self.quality;
         bytes[1] = self.mode;
+        bytes[2] = self.cap_flag;
         let mut put = |at: usize, word: u32| bytes[at..at + 4].copy_from_slice(&word.to_le_bytes());
         put(4, self.target as u32);
         put(8, self.availability);
@@ -184,7 +201,7 @@ impl Author {
                 self.call_without_register();
             }
         }
-        if self.random.chance(40) {
+        if self.random.chance(80) {
             self.long_run();
         } else {
             let steps = match self.random.below(10) {
@@ -205,7 +222,9 @@ impl Author {
         match self.random.below(5) {
             0 => {
                 let register = self.damaged_register();
-                self.script.load(&register);
+                if Plant::load(&register).is_err() {
+                    self.script.load(&register);
+                }
             }
             1 => {
                 let length = self.random.pick(&[0, 7, 8, 48, 88]);
@@ -220,8 +239,7 @@ impl Author {
 
     fn first_loads(&mut self) {
         while self.random.chance(500) {
-            let register = self.damaged_register();
-            self.script.load(&register);
+            self.load_damaged();
         }
         if !self.random.chance(15) {
             self.load_sound(None);
@@ -236,8 +254,7 @@ impl Author {
             let spent = self.number == Some(u32::MAX);
             if self.random.chance(if spent { 300 } else { 12 }) {
                 if self.random.chance(600) {
-                    let register = self.damaged_register();
-                    self.script.load(&register);
+                    self.load_damaged();
                 } else {
                     self.load_sound(None);
                 }
@@ -251,7 +268,7 @@ impl Author {
 
     /// Runs that pass 255 in manual mode, then often a backlog that declares in automatic mode.
     fn long_run(&mut self) {
-        let units = self.random.below(3) + 1;
+        let units = self.random.below(4) + 1;
         self.load_sound(Some(units));
         self.modes = Modes::Manual;
         self.manual_now = true;
@@ -288,6 +305,12 @@ impl Author {
         let mut shuffled: Vec<usize> = (0..n).collect();
         for i in (1..n).rev() {
             shuffled.swap(i, random.below(i + 1));
+        }
+        // Set aside before the chains, which often take all there are.
+        let mut semi_scheduled = Vec::new();
+        if random.chance(450) {
+            let count = if random.chance(150) { n } else { random.below(n.min(4)) + 1 };
+            semi_scheduled = shuffled.split_off(n - count);
         }
         let mut chains: Vec<Vec<usize>> = Vec::new();
         if random.chance(850) {
@@ -328,8 +351,9 @@ impl Author {
         }
         let one_kind = random.chance(200).then(|| random.within(1, 3) as u8);
         let mut units = Vec::new();
-        for next in next {
-            let kind = one_kind.unwrap_or_else(|| random.within(1, 3) as u8);
+        for (unit, next) in next.into_iter().enumerate() {
+            let kind =
+                if semi_scheduled.contains(&unit) { 4 } else { one_kind.unwrap_or_else(|| random.within(1, 3) as u8) };
             bytes.extend([kind, next, 0, 0]);
             units.push(sketch_unit(random, Kind::of(u32::from(kind)).unwrap_or(Kind::Generating)));
         }
@@ -339,6 +363,7 @@ impl Author {
             bytes.extend([chain[0] as u8 + 1, 0, 0, 0]);
             groups.push(fresh(Some(aggregate), chain.clone()));
         }
+        shuffled.extend(semi_scheduled);
         shuffled.sort_unstable();
         groups.extend(shuffled.iter().map(|&unit| fresh(None, vec![unit])));
         (bytes, Sketch { units, groups, aggregates: chains.len() })
@@ -351,30 +376,42 @@ impl Author {
         self.number = None;
     }
 
-    fn damaged_register(&mut self) -> Vec<u8> {
+    /// Loads a damaged register. Damage that hit nothing leaves the sketch behind, so a sound load follows.
+    fn load_damaged(&mut self) {
         loop {
-            let (mut bytes, sketch) = self.sound_register(None);
-            let n = sketch.units.len();
-            self.damage_register(&mut bytes, n);
-            // A second damage tries the order of the refusals.
-            if self.random.chance(250) {
-                self.damage_register(&mut bytes, n);
+            let register = self.damaged_register();
+            let accepted = Plant::load(&register).is_ok();
+            // Few of these, as each starts afresh; but some, as what is acceptable here is one reading of the paper.
+            if accepted && self.random.chance(800) {
+                continue;
             }
-            // Damage that hit nothing would leave the sketch behind.
-            if Plant::load(&bytes).is_err() {
-                return bytes;
+            self.script.load(&register);
+            if accepted {
+                self.load_sound(None);
             }
+            return;
         }
     }
 
-    fn damage_register(&mut self, bytes: &mut Vec<u8>, n: usize) {
+    fn damaged_register(&mut self) -> Vec<u8> {
+        let (mut bytes, sketch) = self.sound_register(None);
+        self.damage_register(&mut bytes, &sketch);
+        // A second damage tries the order of the refusals.
+        if self.random.chance(250) {
+            self.damage_register(&mut bytes, &sketch);
+        }
+        bytes
+    }
+
+    fn damage_register(&mut self, bytes: &mut Vec<u8>, sketch: &Sketch) {
         let random = &mut self.random;
+        let n = sketch.units.len();
         let m = bytes.len().saturating_sub(16 + 4 * n) / 4;
         let unit = 16 + 4 * random.below(n);
         let heads = 16 + 4 * n;
         let head = heads + 4 * random.below(m.max(1));
         let some_unit = random.within(1, n as i64) as u8;
-        match random.below(12) {
+        match random.below(16) {
             0 => bytes.truncate(random.below(16)),
             1 => match random.below(4) {
                 0 => bytes.push(0),
@@ -399,10 +436,10 @@ impl Author {
                     _ => set(bytes, at + random.below(3), random.byte()),
                 }
             }
-            4 => match random.below(4) {
+            4 => match random.below(6) {
                 0 => set(bytes, 8 + random.below(8), random.pick(&[1, 2, 255])),
-                1 => set(bytes, unit, random.pick(&[0, 4, 5, 255])),
-                2 => set(bytes, unit + 2 + random.below(2), random.pick(&[1, 128])),
+                1..=3 => set(bytes, unit, random.pick(&[0, 5, 5, 6, 128, 255])),
+                4 => set(bytes, unit + 2 + random.below(2), random.pick(&[1, 128])),
                 _ => set(bytes, head + 1 + random.below(3), random.pick(&[1, 255])),
             },
             5 => match random.below(4) {
@@ -436,6 +473,16 @@ impl Author {
                     set(bytes, 13 + 4 * first, 0);
                 } else {
                     set(bytes, unit + 1, some_unit);
+                }
+            }
+            10..=13 => {
+                chain_semi_scheduled(random, bytes, sketch);
+                // A second one, or a next in a unit that no chain meets, whose refusal goes before.
+                let loners = sketch.loners();
+                match random.below(10) {
+                    0 | 1 => chain_semi_scheduled(random, bytes, sketch),
+                    2..=5 if !loners.is_empty() => set(bytes, 17 + 4 * random.pick(&loners), some_unit),
+                    _ => {}
                 }
             }
             _ => {
@@ -480,11 +527,11 @@ impl Author {
             sketch.groups.iter().filter(|group| group.aggregate.is_some()).map(|group| group.units.len()).sum();
         let noise = self.noise * 8 / (8 + in_chains as u64);
         let mut sent = Vec::with_capacity(drafts.len());
-        for draft in drafts.iter().flatten() {
+        for (unit, draft) in sketch.units.iter().zip(drafts.iter().flatten()) {
             let mut bytes = draft.bytes();
             let mut kept = true;
             if self.random.chance(noise) {
-                kept = self.damage_line(&mut bytes);
+                kept = self.damage_line(&mut bytes, unit.kind);
             } else if self.random.chance(noise + 10) {
                 self.odd_floats(&mut bytes);
             }
@@ -552,6 +599,7 @@ impl Author {
         let random = &mut self.random;
         let Sketch { units, groups, .. } = sketch;
         let group = &mut groups[index];
+        let semi_scheduled = units[group.units[0]].kind == Kind::SemiScheduled;
         group.left = group.left.saturating_sub(1);
         if group.left == 0 {
             let away = if self.stubborn { 990 } else { 550 };
@@ -563,7 +611,7 @@ impl Author {
             if self.stubborn && group.course == Course::Edge {
                 group.course = Course::Small;
             }
-            group.upward = random.chance(500);
+            group.upward = random.chance(if semi_scheduled { 700 } else { 500 });
             group.left = match group.course {
                 Course::OnTarget => random.within(1, 4) as u32,
                 _ if self.stubborn => random.within(100, 900) as u32,
@@ -573,6 +621,8 @@ impl Author {
         if random.chance(100) {
             group.upward = !group.upward;
         }
+        // A semi-scheduled unit's runs end below its target.
+        group.upward |= semi_scheduled && self.stubborn;
         let member = group.aggregate.is_some();
         let odd = 1 + 40 / group.units.len() as u64;
         let odd = if self.stubborn { odd / 8 } else { odd };
@@ -601,13 +651,19 @@ impl Author {
     }
 
     /// Damages a line, or brings it to a bound; tells whether it can still be read.
-    fn damage_line(&mut self, bytes: &mut [u8; 40]) -> bool {
+    fn damage_line(&mut self, bytes: &mut [u8; 40], kind: Kind) -> bool {
         let random = &mut self.random;
         let mut put = |at: usize, word: u32| bytes[at..at + 4].copy_from_slice(&word.to_le_bytes());
-        match random.below(11) {
+        let semi_scheduled = kind == Kind::SemiScheduled;
+        match random.below(if semi_scheduled { 14 } else { 11 }) {
             0 => bytes[0] = random.pick(&[3, 4, 128, 255]),
             1 => bytes[1] = random.pick(&[1, 2, 3, 4, 255]),
-            2 => bytes[2 + random.below(2)] = random.pick(&[1, 128]),
+            2 | 11.. if semi_scheduled => {
+                let cap_flag = random.pick(&[2, 2, 3, 128, 254, 255]);
+                let spare = random.pick(&[1, 128, 255]);
+                (bytes[2], bytes[3]) = random.pick(&[(cap_flag, 0), (cap_flag, 0), (0, spare), (1, spare)]);
+            }
+            2 => bytes[2 + random.below(2)] = random.pick(&[1, 1, 2, 128]),
             3 => put(4, random.pick(&[-1, 2_000_001, -2_000_000, -2_000_001, i32::MIN, i32::MAX]) as u32),
             4 => put(8 + 4 * random.below(5), random.pick(&[2_000_001, 2_000_001, u32::MAX, 0x8000_0000])),
             5 => put(28, random.pick(&UNREADABLE_POWERS)),
@@ -656,10 +712,17 @@ impl Author {
     fn operator_calls(&mut self) {
         let points = self.sketch.as_ref().map_or(1, |sketch| sketch.units.len() + sketch.aggregates) as u32;
         let units = self.sketch.as_ref().map_or(1, |sketch| sketch.units.len()) as u32;
+        let semi_scheduled = self.sketch.as_ref().map_or(Vec::new(), Sketch::semi_scheduled);
         let random = &mut self.random;
         if random.chance(80) {
             for point in 1..=points.min(20) {
                 self.script.reinstate(point);
+            }
+            return;
+        }
+        if random.chance(40) {
+            for point in 1..=points.min(20) {
+                self.script.declare(point, random.within(-300_000, 300_000) as i32);
             }
             return;
         }
@@ -672,6 +735,7 @@ impl Author {
             }
             3 => random.pick(&[u32::MAX, random_word(points)]),
             4..=9 if points > units => units + 1 + random.below((points - units) as usize) as u32,
+            10..=13 if !semi_scheduled.is_empty() => random.pick(&semi_scheduled) as u32 + 1,
             _ => random.within(1, i64::from(points)) as u32,
         };
         let level = match random.below(12) {
@@ -777,8 +841,44 @@ fn sketch_unit(random: &mut Random, kind: Kind) -> Unit {
             1 => random.within(0, 60_000),
             _ => random.within(3_000, 12_000),
         },
+        cap_flag: u8::from(random.chance(700)),
+        cap_left: random.within(1, 12) as u32,
         sent: None,
     }
+}
+
+/// Brings a semi-scheduled unit into a chain: a member becomes one, or one that stood in no chain goes in front or behind.
+fn chain_semi_scheduled(random: &mut Random, bytes: &mut [u8], sketch: &Sketch) {
+    if sketch.aggregates == 0 {
+        return;
+    }
+    let (kind, next) = (|unit: usize| 16 + 4 * unit, |unit: usize| 17 + 4 * unit);
+    let aggregate = random.below(sketch.aggregates);
+    let chain = &sketch.groups[aggregate].units;
+    let semi_scheduled = sketch.semi_scheduled();
+    if semi_scheduled.is_empty() || random.chance(650) {
+        set(bytes, kind(random.pick(chain)), 4);
+        return;
+    }
+    let unit = random.pick(&semi_scheduled);
+    if random.chance(500) {
+        set(bytes, next(chain[chain.len() - 1]), unit as u8 + 1);
+    } else {
+        set(bytes, next(unit), chain[0] as u8 + 1);
+        set(bytes, 16 + 4 * (sketch.units.len() + aggregate), unit as u8 + 1);
+    }
+}
+
+/// A cap stays for some intervals, and so does its absence; a stubborn unit's cap stays for good.
+fn next_cap_flag(random: &mut Random, unit: &mut Unit, stubborn: bool) -> u8 {
+    unit.cap_left = unit.cap_left.saturating_sub(1);
+    if stubborn {
+        unit.cap_flag = 1;
+    } else if unit.cap_left == 0 {
+        unit.cap_flag = 1 - unit.cap_flag;
+        unit.cap_left = random.within(1, if unit.cap_flag == 1 { 18 } else { 5 }) as u32;
+    }
+    unit.cap_flag
 }
 
 /// A line on the group's course. A stubborn one stays away for good.
@@ -790,10 +890,15 @@ fn draft_unit(random: &mut Random, unit: &mut Unit, course: Course, upward: bool
         1 if !stubborn => LIMIT,
         _ => unit.target,
     };
+    let cap_flag = match unit.kind {
+        Kind::SemiScheduled => next_cap_flag(random, unit, stubborn),
+        _ => 0,
+    };
     let near = |random: &mut Random, rate: i64| (rate + random.within(-200, 900)).clamp(0, LIMIT);
     let mut draft = Draft {
         quality: 0,
         mode: 0,
+        cap_flag,
         target,
         availability: unit.availability,
         raise: if random.chance(900) { unit.raise } else { random.within(0, 9_000) as u32 },

@@ -36,6 +36,8 @@ pub enum Refusal {
     NotDeclarable = 22,
     /// Reinstate on a status other than 4.
     NotDeclared = 23,
+    /// Semi-scheduled unit in a chain.
+    SemiScheduledMember = 30,
 }
 
 impl Refusal {

@@ -117,6 +117,11 @@ impl Plant {
             placed += 1;
         }
 
+        // 30: any place of any chain.
+        if order[..visits].iter().any(|&unit| kinds[usize::from(unit)] == Kind::SemiScheduled) {
+            return Err(Refusal::SemiScheduledMember);
+        }
+
         let plant = Self {
             units: units as u8,
             aggregates: aggregates as u8,
@@ -267,7 +272,7 @@ mod tests {
         for at in (8..16).chain([18, 19, 22, 23, 25, 26, 27]) {
             assert_eq!(with(&[(at, 1)]), 4);
         }
-        for kind in [0, 4, 255] {
+        for kind in [0, 5, 6, 255] {
             assert_eq!(with(&[(20, kind)]), 4);
         }
         assert_eq!(with(&[(17, 3)]), 5);
@@ -286,5 +291,78 @@ mod tests {
         assert_eq!(refused(&register(&[(1, 1), (1, 0)], &[2, 2])), 6);
         assert_eq!(refused(&register(&[(1, 0), (1, 3), (1, 2)], &[1])), 7);
         assert_eq!(refused(&register(&[(1, 2), (1, 0), (1, 2)], &[1, 3])), 6);
+    }
+
+    #[test]
+    fn semi_scheduled_in_no_chain() {
+        let (plant, visits) = Plant::load(&register(&[(4, 0), (1, 3), (2, 0), (4, 0)], &[2])).unwrap();
+        assert_eq!((visits, plant.loners()), (2, &[0u8, 3][..]));
+        assert_eq!((plant.kind(0), plant.kind(3)), (Kind::SemiScheduled, Kind::SemiScheduled));
+        assert!(Plant::load(&register(&[(4, 0); 64], &[])).is_ok());
+    }
+
+    #[test]
+    fn semi_scheduled_in_a_chain() {
+        // Chains 5 2, 1 3 6 and 4; unit 7 in none.
+        let nexts = [3, 0, 6, 0, 2, 0, 0];
+        let heads = [5, 1, 4];
+        let with_kinds = |kinds: &[(usize, u8)]| {
+            let mut units = nexts.map(|next| (1, next));
+            for &(unit, kind) in kinds {
+                units[unit - 1].0 = kind;
+            }
+            register(&units, &heads)
+        };
+        // Each place of each chain, one and two at a time.
+        for unit in 1..=6 {
+            assert_eq!(refused(&with_kinds(&[(unit, 4)])), 30);
+            assert_eq!(refused(&with_kinds(&[(unit, 4), (7, 4)])), 30);
+            for other in 1..=6 {
+                assert_eq!(refused(&with_kinds(&[(unit, 4), (other, 4)])), 30);
+            }
+        }
+        assert_eq!(Plant::load(&with_kinds(&[(7, 4)])).unwrap().1, 6);
+        // Alone in the only chain of the only unit, and in the last place of the longest chain.
+        assert_eq!(refused(&register(&[(4, 0)], &[1])), 30);
+        let mut longest: Vec<(u8, u8)> = (1..=64).map(|u| (1, if u == 64 { 0 } else { u + 1 })).collect();
+        longest[63].0 = 4;
+        assert_eq!(refused(&register(&longest, &[1])), 30);
+    }
+
+    #[test]
+    fn order_of_semi_scheduled_in_a_chain() {
+        // Chain 1 2; units 3 and 4 in none.
+        let good = register(&[(1, 2), (2, 0), (3, 0), (1, 0)], &[1]);
+        let with = |changes: &[(usize, u8)]| {
+            let mut bytes = good.clone();
+            for &(at, value) in changes {
+                bytes[at] = value;
+            }
+            refused(&bytes)
+        };
+        // Unit u's kind at 12 + 4u, its next behind that; the head at 32.
+        for chained in [16, 20] {
+            assert_eq!(with(&[(chained, 4)]), 30);
+            // 7 goes first, wherever the unmet unit stands and whatever its kind.
+            assert_eq!(with(&[(chained, 4), (25, 1)]), 7);
+            assert_eq!(with(&[(chained, 4), (29, 2)]), 7);
+            assert_eq!(with(&[(chained, 4), (28, 4), (29, 4)]), 7);
+            // So do 6, 5, 4, 3 and 2.
+            assert_eq!(with(&[(chained, 4), (21, 1)]), 6);
+            assert_eq!(with(&[(chained, 4), (29, 5)]), 5);
+            assert_eq!(with(&[(chained, 4), (32, 0)]), 5);
+            assert_eq!(with(&[(chained, 4), (28, 5)]), 4);
+            assert_eq!(with(&[(chained, 4), (24, 0)]), 4);
+            assert_eq!(with(&[(chained, 4), (35, 1)]), 4);
+            assert_eq!(with(&[(chained, 4), (2, 1)]), 3);
+            assert_eq!(with(&[(chained, 4), (1, 17)]), 2);
+            assert_eq!(with(&[(chained, 4), (0, 5)]), 1);
+        }
+        // A semi-scheduled unit that no chain meets falls under 7 alone.
+        assert_eq!(with(&[(28, 4), (29, 1)]), 7);
+        assert_eq!(with(&[(17, 0), (20, 4), (21, 3)]), 7);
+        // One that a chain runs into is met.
+        assert_eq!(with(&[(21, 4), (28, 4)]), 30);
+        assert_eq!(with(&[(32, 4), (28, 4), (29, 1)]), 30);
     }
 }

@@ -46,13 +46,22 @@ fn buffer(number: u32, mode: u8, lines: &[[u8; 40]]) -> Vec<u8> {
     bytes
 }
 
-/// A monitor with one generating unit, and shorthands for its intervals.
+/// A line of a semi-scheduled unit.
+fn flagged(mw: f32, cap_flag: u8) -> [u8; 40] {
+    with(line(mw), 2, cap_flag)
+}
+
+/// A monitor with one generating unit, or one of another kind, and shorthands for its intervals.
 struct One(Monitor);
 
 impl One {
     fn new(lengths: [u8; 6]) -> Self {
+        Self::of_kind(1, lengths)
+    }
+
+    fn of_kind(kind: u8, lengths: [u8; 6]) -> Self {
         let mut monitor = Monitor::new();
-        assert_eq!(monitor.load(&register(lengths, &[(1, 0)], &[])), Ok(0));
+        assert_eq!(monitor.load(&register(lengths, &[(kind, 0)], &[])), Ok(0));
         Self(monitor)
     }
 
@@ -310,6 +319,158 @@ fn members_and_their_aggregate() {
 }
 
 #[test]
+fn the_kept_cap_flag_counts() {
+    let mut one = One::of_kind(4, [2, 3, 9, 2, 3, 9]);
+    // Nothing kept: BLANK, whatever the flags.
+    assert_eq!(summary(one.interval(1, 1, flagged(107.0, 0))), (0, 1, 0, 0));
+    // Kept 0: OFF, without error and trigger.
+    let record = one.interval(2, 1, flagged(107.0, 1));
+    assert_eq!((record.mark, record.error, record.trigger), (0, 0, 0));
+    // Kept 1, this line's 0.
+    let record = one.interval(3, 1, flagged(107.0, 0));
+    assert_eq!((record.mark, record.error, record.trigger), (5, 7_000, 600_000));
+    assert_eq!(summary(record), (1, 5, 1, 1));
+    // OFF clears the run.
+    assert_eq!(summary(one.interval(4, 1, flagged(107.0, 1))), (0, 0, 0, 0));
+    assert_eq!(summary(one.interval(5, 1, flagged(107.0, 1))), (1, 5, 1, 1));
+    assert_eq!(summary(one.interval(6, 1, flagged(107.0, 1))), (2, 5, 2, 2));
+    // Any other flag: unreadable, BLANK now and next time, the runs stand.
+    assert_eq!(summary(one.interval(7, 1, flagged(107.0, 2))), (2, 1, 2, 2));
+    assert_eq!(summary(one.interval(8, 1, flagged(107.0, 1))), (2, 1, 2, 2));
+    assert_eq!(summary(one.interval(9, 1, flagged(107.0, 255))), (2, 1, 2, 2));
+    assert_eq!(summary(one.interval(10, 1, flagged(107.0, 0))), (2, 1, 2, 2));
+    // Kept 0, but stale by a jump: BLANK.
+    assert_eq!(summary(one.interval(12, 1, flagged(107.0, 0))), (2, 1, 2, 2));
+    // Kept 0, but quality 2: BLANK. Its own flag is kept.
+    assert_eq!(summary(one.interval(13, 1, with(flagged(107.0, 1), 0, 2))), (2, 1, 2, 2));
+    assert_eq!(summary(one.interval(14, 1, flagged(107.0, 0))), (3, 5, 3, 3));
+    // Kept 0 and substituted: OFF.
+    assert_eq!(summary(one.interval(15, 1, with(flagged(107.0, 0), 0, 1))), (0, 0, 0, 0));
+    assert_eq!(summary(one.interval(16, 1, flagged(93.0, 0))), (0, 0, 0, 0));
+}
+
+#[test]
+fn below_a_capped_target() {
+    let mut one = One::of_kind(4, [2, 3, 9, 2, 3, 9]);
+    one.interval(1, 1, flagged(100.0, 1));
+    let mut found = |number, line| {
+        let record = one.interval(number, 1, line);
+        (record.mark, record.error, record.trigger, record.small)
+    };
+    assert_eq!(found(2, flagged(106.0, 1)), (2, 6_000, 600_000, 0));
+    assert_eq!(found(3, flagged(106.001, 1)), (5, 6_001, 600_000, 1));
+    // CLEAR at the trigger and past it, and the run ends.
+    assert_eq!(found(4, flagged(93.999, 1)), (2, -6_001, 600_000, 0));
+    assert_eq!(found(5, flagged(107.0, 1)), (5, 7_000, 600_000, 1));
+    assert_eq!(found(6, flagged(94.0, 1)), (2, -6_000, 600_000, 0));
+    // Substituted: DOUBT above, which leaves the run; CLEAR below, which ends it.
+    assert_eq!(found(7, flagged(107.0, 1)), (5, 7_000, 600_000, 1));
+    assert_eq!(found(8, with(flagged(106.001, 1), 0, 1)), (3, 6_001, 600_000, 1));
+    assert_eq!(found(9, with(flagged(93.999, 1), 0, 1)), (2, -6_001, 600_000, 0));
+    assert_eq!(found(10, with(flagged(106.0, 1), 0, 1)), (2, 6_000, 600_000, 0));
+    // With a power of 0 and of less.
+    assert_eq!(found(11, flagged(0.0, 1)), (2, -100_000, 600_000, 0));
+    assert_eq!(found(12, flagged(-1.0, 1)), (2, -101_000, 600_000, 0));
+}
+
+#[test]
+fn semi_scheduled_regulation_sides() {
+    // As a generating unit: FCR above, FCL below.
+    let mut one = One::of_kind(4, [2, 3, 9, 2, 3, 9]);
+    let regulated = |mw: f32| {
+        let mut bytes = flagged(mw, 1);
+        bytes[12..16].copy_from_slice(&5_000u32.to_le_bytes());
+        bytes[16..20].copy_from_slice(&2_000u32.to_le_bytes());
+        bytes
+    };
+    one.interval(1, 1, regulated(100.0));
+    for (number, mw, mark, error) in [
+        (2, 105.0, 2, 0),
+        (3, 111.0, 2, 6_000),
+        (4, 111.001, 5, 6_001),
+        (5, 98.0, 2, 0),
+        (6, 92.0, 2, -6_000),
+        (7, 91.999, 2, -6_001),
+    ] {
+        let record = one.interval(number, 1, regulated(mw));
+        assert_eq!((record.mark, record.error), (mark, error));
+    }
+}
+
+#[test]
+fn a_declared_semi_scheduled_unit() {
+    let mut one = One::of_kind(4, [2, 3, 4, 2, 3, 4]);
+    one.interval(1, 1, flagged(100.0, 1));
+    let statuses: Vec<_> = (2..=5)
+        .map(|number| one.interval(number, 1, flagged(107.0, 1)))
+        .map(|r| (r.status, r.small, r.large, r.level))
+        .collect();
+    assert_eq!(statuses, [(1, 1, 1, 0), (2, 2, 2, 0), (3, 3, 3, 0), (4, 0, 0, 107_000)]);
+    // The marks go on, the level stands: CLEAR below target, OFF, LARGE.
+    let declared = |record: Record| (record.status, record.mark, record.small, record.large, record.level);
+    assert_eq!(declared(one.interval(6, 1, flagged(93.0, 0))), (4, 2, 0, 0, 107_000));
+    assert_eq!(declared(one.interval(7, 1, flagged(107.0, 1))), (4, 0, 0, 0, 107_000));
+    assert_eq!(declared(one.interval(8, 1, flagged(108.0, 1))), (4, 5, 0, 0, 107_000));
+    one.0.reinstate(1).unwrap();
+    assert_eq!(one.0.look(1), Ok(Look { status: 0, small: 0, large: 0, level: 0 }));
+    assert_eq!(summary(one.interval(9, 1, flagged(107.0, 1))), (1, 5, 1, 1));
+    // OFF and CLEAR begin the run anew; four more marks declare.
+    assert_eq!(summary(one.interval(10, 1, flagged(107.0, 0))), (2, 5, 2, 2));
+    assert_eq!(summary(one.interval(11, 1, flagged(107.0, 1))), (0, 0, 0, 0));
+    for (number, status) in [(12, 1), (13, 2), (14, 3)] {
+        assert_eq!(one.interval(number, 1, flagged(107.0, 1)).status, status);
+    }
+    assert_eq!(summary(one.interval(15, 1, flagged(93.0, 1))), (0, 2, 0, 0));
+    for (number, status) in [(16, 1), (17, 2), (18, 3), (19, 4)] {
+        assert_eq!(one.interval(number, 1, flagged(109.0, 1)).status, status);
+    }
+    assert_eq!(one.0.look(1).unwrap().level, 109_000);
+}
+
+#[test]
+fn an_operator_declares_a_semi_scheduled_unit() {
+    let mut one = One::of_kind(4, [2, 3, 4, 2, 3, 4]);
+    one.interval(1, 0, flagged(100.0, 1));
+    one.interval(2, 0, flagged(107.0, 1));
+    assert_eq!(one.0.declare(1, 50_000).unwrap_err().number(), 22);
+    one.interval(3, 0, flagged(107.0, 0));
+    one.0.declare(1, 50_000).unwrap();
+    assert_eq!(one.0.look(1), Ok(Look { status: 4, small: 0, large: 0, level: 50_000 }));
+    // OFF does not reinstate.
+    assert_eq!(summary(one.interval(4, 0, flagged(107.0, 0))), (4, 0, 0, 0));
+    one.0.reinstate(1).unwrap();
+    // After an OFF there is nothing to declare.
+    assert_eq!(summary(one.interval(5, 0, flagged(107.0, 0))), (0, 0, 0, 0));
+    assert_eq!(one.0.declare(1, 50_000).unwrap_err().number(), 22);
+}
+
+#[test]
+fn a_semi_scheduled_unit_beside_a_chain() {
+    // Unit 2 semi-scheduled, units 1 and 3 a chain: point 4.
+    let mut monitor = Monitor::new();
+    let units = [(1, 3), (4, 0), (1, 0)];
+    assert_eq!(monitor.load(&register([2, 3, 4, 2, 3, 4], &units, &[1])), Ok(2));
+    let mut report = [0; 64];
+    let mut run = |number, lines: &[[u8; 40]]| {
+        monitor.interval(&buffer(number, 1, lines), &mut report).unwrap();
+        report.as_chunks().0.iter().map(Record::of).map(|r| (r.mark, r.error)).collect::<Vec<_>>()
+    };
+    let on = member(100.0, 2);
+    assert_eq!(run(1, &[on, flagged(107.0, 1), on]), [(1, 0); 4]);
+    assert_eq!(run(2, &[on, flagged(107.0, 0), on]), [(2, 0), (5, 7_000), (2, 0), (2, 0)]);
+    assert_eq!(run(3, &[on, flagged(107.0, 2), on]), [(2, 0), (1, 0), (2, 0), (2, 0)]);
+    assert_eq!(run(4, &[on, flagged(107.0, 0), on]), [(2, 0), (1, 0), (2, 0), (2, 0)]);
+    assert_eq!(run(5, &[on, flagged(107.0, 0), on]), [(2, 0), (0, 0), (2, 0), (2, 0)]);
+    // A flag in a member's line is a nonzero spare.
+    assert_eq!(run(6, &[with(on, 2, 1), flagged(107.0, 0), on]), [(1, 0), (0, 0), (2, 0), (1, 0)]);
+    // A register that chains it leaves everything as it was.
+    let before = monitor.clone();
+    assert_eq!(monitor.load(&register([2, 3, 4, 2, 3, 4], &units, &[2])).unwrap_err().number(), 7);
+    assert_eq!(monitor.load(&register([2, 3, 4, 2, 3, 4], &units, &[1, 2])).unwrap_err().number(), 30);
+    assert!(monitor == before);
+}
+
+#[test]
 fn program_refusals() {
     let text = |register: &[u8], intervals: &[u8]| {
         let mut out = Vec::new();
@@ -318,6 +479,8 @@ fn program_refusals() {
     };
     let good = register([2, 3, 4, 2, 3, 4], &[(1, 0)], &[]);
     assert_eq!(text(&[], &[1, 2, 3]), "refused 1\n");
+    assert_eq!(text(&register([2, 3, 4, 2, 3, 4], &[(4, 0)], &[1]), &[]), "refused 30\n");
+    assert_eq!(text(&register([2, 3, 4, 2, 3, 4], &[(5, 0)], &[]), &[]), "refused 4\n");
     assert_eq!(text(&good, &[]), "");
     assert_eq!(text(&good, &[0; 5]), "refused 8\n");
     let bytes = [buffer(7, 1, &[line(100.0)]), buffer(7, 1, &[line(100.0)]), buffer(8, 1, &[line(100.0)])].concat();

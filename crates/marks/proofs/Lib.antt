@@ -3,3 +3,4 @@ pub mod Small
 pub mod Held
 pub mod Thresholds
 pub mod Rows
+pub mod SemiScheduled

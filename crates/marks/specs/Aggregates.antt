@@ -110,7 +110,8 @@ addMembers s (v ∷ vs) = addMembers (addMember s v) vs
 abbrev pub wayOf : Sums → Direction
 wayOf s = directionOf (s .present .target) (s .present .power)
 
--- "MWO and ROC are each the greater of two sums, one over kinds 1 and 3, one over kind 2"
+-- "MWO and ROC are each the greater of two sums, one over kinds 1 and 3, one over kind 2". "Kind 4 stands in no chain for now"
+-- (2026-01), so no cap holds
 unfoldable pub aggregateBasis : Sums → Basis
 aggregateBasis s =
     record {
@@ -121,6 +122,7 @@ aggregateBasis s =
       availability = max (s .supply .availability) (s .loads .availability);
       rate = max (rateOf (wayOf s) (s .supply)) (rateOf (opposite (wayOf s)) (s .loads));
       doubtful = s .flags .doubtful;
+      capped = false;
     }
 
 -- "a member unreadable → BLANK; all conformance modes 0 → OFF", then "quality 2, or nothing kept, for .. any member → BLANK"

@@ -1,17 +1,17 @@
--- The assessment of a unit: mark, error, small trigger and power (01, "Triggers and errors" and "Marks and runs").
+-- The assessment of a unit: mark, error, small trigger and power (01, "Triggers and errors" and "Marks and runs"; 02, 2026-01).
 use mathlib.Core.Bool.{Bool, true, false, cond, not, _&&_}
 use Prim.Native.Nat.{ℕ}
 use lib.Dec.{eqb}
 use lib.IntN.{ℤ, pos}
 use Rattle.telemetry.specs.Kilowatts.{kilowattsOf}
-use Rattle.telemetry.specs.Lines.{powerOf}
+use Rattle.telemetry.specs.Lines.{isSemiScheduled, powerOf}
 use Rattle.telemetry.specs.declared.Fields.{Fields}
 use Rattle.telemetry.specs.declared.Line.{Line}
 use Rattle.telemetry.specs.declared.Line.the-variants.{Readable, Unreadable}
 use Rattle.telemetry.specs.declared.Reading.{Reading}
 use Rattle.telemetry.specs.declared.Reading.the-variants.{Good, Substituted, Missing}
 use Rattle.marks.specs.Triggers.{directionOf, rateOf, unitCapability, smallTrigger, largeTrigger}
-use Rattle.marks.specs.Errors.{errorOf, exceeds}
+use Rattle.marks.specs.Errors.{errorOf, countedOf, exceeds}
 use Rattle.marks.specs.declared.Kept.{Kept}
 use Rattle.marks.specs.declared.Sight.{Sight}
 use Rattle.marks.specs.declared.Mark.{Mark}
@@ -48,10 +48,13 @@ isKnown f k = not (isMissing (powerOf f)) && k .have
 unfoldable pub markOf : ℤ → ℕ → ℕ → Bool → Mark
 markOf error small large doubtful = cond (exceeds error small) (cond doubtful Doubt (cond (exceeds error large) Large Small)) Clear
 
+-- the mark goes by the error that counts, and the whole error is reported
 unfoldable pub judged : Basis → Assessment
 judged b =
     record {
-      mark = markOf (errorOf b) (smallTrigger (b .availability) (b .rate)) (largeTrigger (b .availability) (b .rate)) (b .doubtful);
+      mark =
+          markOf (countedOf (b .capped) (errorOf b)) (smallTrigger (b .availability) (b .rate)) (largeTrigger (b .availability) (b .rate))
+          (b .doubtful);
       error = errorOf b;
       trigger = smallTrigger (b .availability) (b .rate);
       power = b .power;
@@ -63,12 +66,20 @@ without mark = record { mark = mark; error = pos 0; trigger = 0; power = pos 0 }
 
 -- ---- a unit
 
--- "For kinds 1 and 3 up = FCR and down = FCL; for a load up = FCL and down = FCR"
+-- "For kinds 1 and 3 up = FCR and down = FCL; for a load up = FCL and down = FCR"; kind 4 has "regulation sides as for kind 1"
 abbrev pub upOf : ℕ → Kept → ℤ
 upOf kind k = cond (eqb kind 2) (pos (k .lower)) (pos (k .raise))
 
 abbrev pub downOf : ℕ → Kept → ℤ
 downOf kind k = cond (eqb kind 2) (pos (k .raise)) (pos (k .lower))
+
+-- "With a kept flag of 1 only a positive error counts" (2026-01)
+abbrev pub isCapped : ℕ → Bool → Bool
+isCapped kind flag = isSemiScheduled kind && flag
+
+-- "A kept flag of 0 gives OFF" (2026-01)
+abbrev pub isUncapped : ℕ → Bool → Bool
+isUncapped kind flag = isSemiScheduled kind && not flag
 
 -- "The error compares MW of this line with MWB, FCR and FCL kept"; the rate of change goes by this line's MWB
 unfoldable pub unitBasis : ℕ → Fields → Kept → Basis
@@ -82,12 +93,17 @@ unitBasis kind f k =
       availability = f .availability;
       rate = rateOf (directionOf (f .target) power) (unitCapability f);
       doubtful = isDoubtful (powerOf f);
+      capped = isCapped kind (k .capped);
     }
+
+-- a kept flag of 0 is "tested after the rule for nothing kept"
+unfoldable pub knownAssessment : ℕ → Fields → Kept → Assessment
+knownAssessment kind f k = cond (isUncapped kind (k .capped)) (without Off) (judged (unitBasis kind f k))
 
 -- "member unit: .. conformance mode not 2 → OFF", then "quality 2, or nothing kept .. → BLANK"
 unfoldable pub readableAssessment : ℕ → Bool → Fields → Kept → Assessment
 readableAssessment kind chained f k =
-    cond (chained && not (eqb (f .mode) 2)) (without Off) (cond (isKnown f k) (judged (unitBasis kind f k)) (without Blank))
+    cond (chained && not (eqb (f .mode) 2)) (without Off) (cond (isKnown f k) (knownAssessment kind f k) (without Blank))
 
 -- "unreadable → BLANK" goes first
 abbrev pub lineAssessment : ℕ → Bool → Line → Kept → Assessment

@@ -26,7 +26,7 @@ secondMark kind earlier later =
     (unitAssessment false
     (record { kind = kind; line = lineOf kind false later; kept = keptFrom (lineOf kind false earlier) }) .mark)
 
--- "an unknown kind, or a line that is not 40 bytes, gives 6"
+-- "an unknown kind, or a line that is not 40 bytes, gives 6"; kinds 1 to 4 are known
 unfoldable pub unitMarkOf : ℕ → List ℕ → List ℕ → ℕ
 unitMarkOf kind earlier later =
-    cond ((eqb (length earlier) 40 && eqb (length later) 40) && (leb 1 kind && leb kind 3)) (secondMark kind earlier later) 6
+    cond ((eqb (length earlier) 40 && eqb (length later) 40) && (leb 1 kind && leb kind 4)) (secondMark kind earlier later) 6

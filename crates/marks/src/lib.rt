@@ -1,4 +1,5 @@
-// Triggers, errors and marks of units and aggregates (01, "Triggers and errors" and the list of marks under "Marks and runs").
+// Triggers, errors and marks of units and aggregates (01, "Triggers and errors" and the list of marks under "Marks and runs"; 02,
+// 2026-01).
 // Power is in kW, ramp rates in kW per minute, triggers in hundredths of a kW.
 ghost use mathlib.Core.Path.{_≡_};
 ghost use mathlib.Core.Bool.{true};
@@ -7,10 +8,10 @@ ghost use lib.IntN.{natAbs};
 ghost use lib.ListN.{length};
 ghost use Rattle.telemetry.specs.Kilowatts.{kilowattsOf};
 ghost use Rattle.marks.specs.Triggers.{directionOf, opposite, rateOf, capabilityOf, unitCapability, addCapability, triggerOf};
-ghost use Rattle.marks.specs.Errors.{overOf, underOf, errorOf, exceeds};
+ghost use Rattle.marks.specs.Errors.{overOf, underOf, errorOf, countedOf, exceeds};
 ghost use Rattle.marks.specs.KeptLines.{nothingKept, keptBounded, keptFrom};
 ghost use Rattle.marks.specs.Assessments.{kilowattsIn, isMissing, isDoubtful, isKnown, markOf, judged, without, upOf, downOf};
-ghost use Rattle.marks.specs.Assessments.{unitBasis, readableAssessment, unitAssessment};
+ghost use Rattle.marks.specs.Assessments.{isCapped, isUncapped, unitBasis, knownAssessment, readableAssessment, unitAssessment};
 ghost use Rattle.marks.specs.Aggregates.{addSigned, addFlags, unreadableFlags, addPresent, addKept, addReadable, addUnreadable};
 ghost use Rattle.marks.specs.Aggregates.{addMember, noSums, aggregateBasis, sumsAssessment};
 ghost use Rattle.marks.specs.Bounds.{SmallFields, SmallKept, SmallSight, SmallCapability, SmallPresent, SmallKeptSums, SmallSums, SmallBasis};
@@ -131,12 +132,13 @@ fn capability_of(readings: Readings, availability: u32, bid_up: u32, bid_down: u
 
 // ---- kept lines
 
-// What the interval before left of a unit's line. Without `have` the rest is 0.
+// What the interval before left of a unit's line. Without `have` the rest is 0 and false. The cap flag plays a part for kind 4 alone.
 pub struct Kept {
     pub have: bool,
     pub target: i32,
     pub raise: u32,
     pub lower: u32,
+    pub capped: bool,
 }
 
 pub fn nothing_kept() -> Kept
@@ -147,6 +149,7 @@ pub fn nothing_kept() -> Kept
         target: 0,
         raise: 0,
         lower: 0,
+        capped: false,
     }
 }
 
@@ -160,6 +163,7 @@ pub fn kept_from(line: Line) -> Kept
             target: f.target,
             raise: f.raise,
             lower: f.lower,
+            capped: f.capped,
         },
         Line::Unreadable => nothing_kept(),
     }
@@ -192,7 +196,7 @@ pub struct Assessment {
     pub power: i32,
 }
 
-// What a point that is neither Off nor Blank is assessed from.
+// What a point that is neither Off nor Blank is assessed from. Where it is capped, only a positive error counts.
 pub struct Basis {
     pub power: i64,
     pub target: i64,
@@ -201,6 +205,7 @@ pub struct Basis {
     pub availability: u64,
     pub rate: u64,
     pub doubtful: bool,
+    pub capped: bool,
 }
 
 // A trigger: at least 6 MW, else the lesser of a share of the availability, in per cent, and some hundredths of a minute's ramping.
@@ -243,6 +248,13 @@ fn error_of(b: Basis) -> i64
     0
 }
 
+// The error that the mark goes by.
+fn counted(capped: bool, error: i64) -> i64
+    ensures { λ r. ⌜ r ≡ countedOf capped error ⌝ }
+{
+    if capped & (error < 0) { 0 } else { error }
+}
+
 fn over_trigger(error: i64, trigger: u64) -> bool
     requires { ⌜ natAbs error < 2 ^ 40 ⌝ }
     ensures { λ r. ⌜ r ≡ exceeds error trigger ⌝ }
@@ -273,7 +285,8 @@ fn judge(b: Basis) -> Assessment
     let error = error_of(b);
     let small = trigger_of(3, 200, b.availability, b.rate);
     let large = trigger_of(5, 400, b.availability, b.rate);
-    let mark = mark_of(error, small, large, b.doubtful);
+    let counting = counted(b.capped, error);
+    let mark = mark_of(counting, small, large, b.doubtful);
     let trigger = small as u32;
     Assessment {
         mark,
@@ -372,6 +385,20 @@ fn unit_rate(f: Fields, power: i64) -> u64
     unit.rate(direction)
 }
 
+// A semi-scheduled unit whose cap flag is 1.
+fn is_capped(kind: u8, flag: bool) -> bool
+    ensures { λ r. ⌜ r ≡ isCapped kind flag ⌝ }
+{
+    (kind == 4) & flag
+}
+
+// A semi-scheduled unit whose cap flag is 0.
+fn is_uncapped(kind: u8, flag: bool) -> bool
+    ensures { λ r. ⌜ r ≡ isUncapped kind flag ⌝ }
+{
+    (kind == 4) & !flag
+}
+
 fn unit_basis(kind: u8, f: Fields, k: Kept) -> Basis
     ensures { λ r. ⌜ r ≡ unitBasis kind f k ⌝ }
 {
@@ -386,7 +413,19 @@ fn unit_basis(kind: u8, f: Fields, k: Kept) -> Basis
         availability,
         rate: unit_rate(f, power),
         doubtful: is_doubtful(reading),
+        capped: is_capped(kind, k.capped),
     }
+}
+
+// A unit that has a value and a kept line.
+fn assess_known(kind: u8, f: Fields, k: Kept) -> Assessment
+    requires { ⌜ SmallFields f × SmallKept k ⌝ }
+    ensures { λ r. ⌜ r ≡ knownAssessment kind f k ⌝ }
+{
+    if is_uncapped(kind, k.capped) {
+        return unassessed(Mark::Off);
+    }
+    judge(unit_basis(kind, f, k))
 }
 
 fn assess_readable(kind: u8, chained: bool, f: Fields, k: Kept) -> Assessment
@@ -398,7 +437,7 @@ fn assess_readable(kind: u8, chained: bool, f: Fields, k: Kept) -> Assessment
         return unassessed(Mark::Off);
     }
     if is_known(f, k) {
-        return judge(unit_basis(kind, f, k));
+        return assess_known(kind, f, k);
     }
     unassessed(Mark::Blank)
 }
@@ -440,7 +479,7 @@ pub struct KeptSums {
     pub lower: i64,
 }
 
-// An aggregate's members so far. `supply` is over kinds 1 and 3, `loads` over kind 2.
+// An aggregate's members so far. `supply` is over kinds 1 and 3, `loads` over kind 2. No chain has a unit of kind 4.
 pub struct Sums {
     pub flags: Flags,
     pub present: Present,
@@ -605,6 +644,7 @@ impl Sums {
             availability: greater(supply.availability, loads.availability),
             rate: greater(supply.rate(direction), loads.rate(direction.turned())),
             doubtful: flags.doubtful,
+            capped: false,
         }
     }
 
@@ -659,7 +699,7 @@ pub extern "C" fn unit_mark(kind: u32, earlier: &[u8], later: &[u8]) -> u32
     ensures { λ r. ⌜ r ≡ unitMarkOf kind (now (earlier .entry)) (now (later .entry)) ⌝ }
 {
     let sized = (earlier.len() == 40) & (later.len() == 40);
-    let known = (1 <= kind) & (kind <= 3);
+    let known = (1 <= kind) & (kind <= 4);
     if sized & known {
         return second_mark((kind % 256) as u8, earlier, later) as u32;
     }

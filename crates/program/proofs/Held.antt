@@ -15,7 +15,7 @@ use Rattle.signed.proofs.Sizes.{size-fits}
 use Rattle.telemetry.specs.declared.Line.{Line}
 use Rattle.telemetry.specs.declared.Line.the-variants.{Readable, Unreadable}
 use Rattle.register.specs.Chains.{chain, membersOf}
-use Rattle.marks.specs.Assessments.{isKnown, judged, without, unitBasis, readableAssessment, lineAssessment, unitAssessment}
+use Rattle.marks.specs.Assessments.{isKnown, isUncapped, judged, without, unitBasis, knownAssessment, readableAssessment, lineAssessment, unitAssessment}
 use Rattle.marks.specs.Aggregates.{noSums, addMember, addMembers, aggregateBasis, sumsAssessment, aggregateAssessment}
 use Rattle.marks.specs.Bounds.{SmallLine, SmallKept, SmallSight, SmallSums, SmallBasis}
 use Rattle.marks.specs.declared.Assessment.{Assessment}
@@ -66,9 +66,9 @@ either false g h = h
 
 -- a unit's, and an aggregate's from its sums
 unit-assessed : (kind : ℕ) (chained : Bool) (l : Line) (k : Kept) → SmallLine l → SmallKept k → SmallAssessment (lineAssessment kind chained l k)
-unfolding readableAssessment
+unfolding readableAssessment knownAssessment
 unit-assessed kind chained (Readable f) k s t =
-    let known = judged-small (unitBasis kind f k) (unit-small kind f k s t) in
+    let known = either (isUncapped kind (k .capped)) (without-small Off) (judged-small (unitBasis kind f k) (unit-small kind f k s t)) in
     either (chained && not (eqb (f .mode) 2)) (without-small Off) (either (isKnown f k) known (without-small Blank))
 unit-assessed kind chained Unreadable k s t = without-small Blank
 

@@ -1,12 +1,12 @@
 -- What an accepted register gives: the plant that it loads, and the laws of that plant's chains. Assumes nothing.
 use mathlib.Core.Path.{_≡_, refl, sym, ap, _∙_}
 use mathlib.Core.Logic.{_⊎_, inl, inr}
-use mathlib.Core.Bool.{Bool, true, false, _&&_}
+use mathlib.Core.Bool.{Bool, true, false, false≢true, _&&_, not}
 use mathlib.Core.List.{List}
 use Prim.Native.Nat.{ℕ, zero, suc, _+_, _≤_, _<_}
 use native.Mathlib.Omega.{arith}
 use borrow.Author.Tests.{leb-true, leb-false, le-leb, eqb-true, eq-eqb}
-use lib.Dec.{leb}
+use lib.Dec.{leb, eqb}
 use lib.ListN.{length, getD, replicate, length-replicate}
 use Rattle.trace.specs.Sweeps.{sweep, records}
 use Rattle.trace.proofs.Sweeps.{below-or-not, every-at, every-all, length-sweep, getD-sweep}
@@ -16,8 +16,8 @@ use Rattle.register.specs.declared.Plant.{Plant}
 use Rattle.register.specs.declared.Registered.{Registered}
 use Rattle.register.specs.Fields.{unitCount, aggregateCount, lengthsAt, fieldAt, headsPlace, kindsOf, nextsOf, headsOf, fieldsOf}
 use Rattle.register.specs.Chains.{chain, Chain, membersOf, allMembers, timesIn, metAt, chainedOf, withChains}
-use Rattle.register.specs.Rules.{longEnough, countsIn, wholeLength, rising, headerSpare, unitsSpare, headsSpare, onceAt, endsAt}
-use Rattle.register.specs.Plants.{kindsKnown, indicesIn, metOnce, restEnds, plantSound}
+use Rattle.register.specs.Rules.{longEnough, countsIn, wholeLength, rising, headerSpare, unitsSpare, headsSpare, onceAt, endsAt, scheduledAt}
+use Rattle.register.specs.Plants.{kindsKnown, indicesIn, metOnce, restEnds, membersScheduled, plantSound}
 use Rattle.register.specs.Registers.{noPlant, unless, refusedBy, acceptedAs}
 use Rattle.register.specs.Registers.{lengthsRise, fieldsKnown, chainedFrom, recordsFrom, registeredOf}
 use Rattle.register.proofs.Soundness.{sound-by, sound-units, sound-indices, head-least}
@@ -36,6 +36,7 @@ pub record Passed (bytes : List ℕ) : Type 0 where
   pub inside : indicesIn (fieldsOf bytes) ≡ true
   pub once : metOnce (fieldsOf bytes) ≡ true
   pub ends : restEnds (withChains (fieldsOf bytes)) ≡ true
+  pub scheduled : membersScheduled (withChains (fieldsOf bytes)) ≡ true
 
 -- a choice that answers Accepted took its test
 unless-passed : (t : Bool) (number visits : ℕ) (rest : Registered) → unless t number rest .answer ≡ Accepted visits
@@ -58,7 +59,8 @@ module _ (bytes : List ℕ) (visits : ℕ) (accepted : registeredOf bytes .answe
       let known = unless-passed (fieldsKnown bytes) 4 visits _ (rise .1) in
       let inside = unless-passed (indicesIn p) 5 visits _ (known .1) in
       let once = unless-passed (metOnce p) 6 visits _ (inside .1) in
-      let ends = unless-passed (restEnds (withChains p)) 7 visits (acceptedAs p) (once .1) in
+      let ends = unless-passed (restEnds (withChains p)) 7 visits _ (once .1) in
+      let scheduled = unless-passed (membersScheduled (withChains p)) 30 visits (acceptedAs p) (ends .1) in
       record {
         long = long .0;
         counts = counts .0;
@@ -68,11 +70,12 @@ module _ (bytes : List ℕ) (visits : ℕ) (accepted : registeredOf bytes .answe
         inside = inside .0;
         once = once .0;
         ends = ends .0;
+        scheduled = scheduled .0;
       }
 
 pub passed-accepted : (bytes : List ℕ) → Passed bytes → registeredOf bytes ≡ acceptedAs (fieldsOf bytes)
 unfolding registeredOf recordsFrom chainedFrom
-passed-accepted bytes q = rw (q .long, q .counts, q .whole, q .rise, q .known, q .inside, q .once, q .ends)
+passed-accepted bytes q = rw (q .long, q .counts, q .whole, q .rise, q .known, q .inside, q .once, q .ends, q .scheduled)
 
 -- ---- the plant of an accepted register
 
@@ -81,6 +84,7 @@ pub record Loaded (p : Plant) : Type 0 where
   pub once : metOnce p ≡ true
   pub marked : p .chained ≡ chainedOf p
   pub ends : restEnds p ≡ true
+  pub scheduled : membersScheduled p ≡ true
   pub small : rising (p .small) ≡ true
   pub large : rising (p .large) ≡ true
   pub kinds : length (p .kinds) ≡ 64
@@ -100,6 +104,7 @@ passed-loaded bytes q =
       once = q .once;
       marked = refl;
       ends = q .ends;
+      scheduled = q .scheduled;
       small = and-l (rising (lengthsAt bytes 2)) (rising (lengthsAt bytes 5)) (q .rise);
       large = and-r (rising (lengthsAt bytes 2)) (rising (lengthsAt bytes 5)) (q .rise);
       kinds = length-swept (fieldAt bytes 16) (unitCount bytes) 64;
@@ -169,6 +174,61 @@ apart-once p a =
     (times-at-most (membersOf p) (suc i) (p .aggregates) (λ j h. a .within (suc i) j h)
     (λ j k h b m. a .between (suc i) k j b (omega arith) (λ (e : k ≡ j). omega arith) m)))
 
+-- ---- a plant whose units are marked as its chains have them
+
+module _ (p : Plant) (sound : plantSound p ≡ true) (marked : p .chained ≡ chainedOf p) where
+  module _ (i : ℕ) (l : i < p .units) where
+    pub marked-at : getD (p .chained) i false ≡ leb 1 (timesIn (suc i) (allMembers p))
+    unfolding chainedOf metAt
+    marked-at =
+        ap (λ (xs : List Bool). getD xs i false) marked
+        ∙ getD-sweep (metAt p) (p .units) (replicate 64 false) false i l (omega (arith, length-replicate 64 false, sound-units p sound))
+
+    -- a unit is marked exactly when some chain has it
+    pub marked-member : getD (p .chained) i false ≡ true → (j : ℕ) × ((j < p .aggregates) × (1 ≤ timesIn (suc i) (membersOf p j)))
+    unfolding allMembers
+    marked-member e =
+        times-somewhere (membersOf p) (suc i) (p .aggregates) (leb-true 1 (timesIn (suc i) (records (membersOf p) (p .aggregates))) (sym marked-at ∙ e))
+
+    pub member-marked : (j : ℕ) → j < p .aggregates → 1 ≤ timesIn (suc i) (membersOf p j) → getD (p .chained) i false ≡ true
+    unfolding allMembers
+    member-marked j h m =
+        let t = times-one (membersOf p) (suc i) (p .aggregates) j h in
+        marked-at ∙ le-leb 1 (timesIn (suc i) (records (membersOf p) (p .aggregates))) (omega arith)
+
+    pub unmarked-member : getD (p .chained) i false ≡ false → (j : ℕ) → j < p .aggregates → timesIn (suc i) (membersOf p j) ≡ 0
+    unfolding allMembers
+    unmarked-member e j h =
+        let t = times-one (membersOf p) (suc i) (p .aggregates) j h in
+        let o = leb-false 1 (timesIn (suc i) (records (membersOf p) (p .aggregates))) (sym marked-at ∙ e) in
+        omega arith
+
+-- ---- refusal 30, whatever the marks: no chain has a unit of kind 4
+
+abbrev pub Scheduled : Plant → Type 0
+Scheduled p = (i j : ℕ) → i < p .units → j < p .aggregates → 1 ≤ timesIn (suc i) (membersOf p j) → getD (p .kinds) i 0 ≡ 4 → ⊥
+
+module _ (p : Plant) (sound : plantSound p ≡ true) (marked : p .chained ≡ chainedOf p) where
+  pub rule-scheduled : membersScheduled p ≡ true → Scheduled p
+  unfolding membersScheduled
+  rule-scheduled e i j l h m four =
+      let test = every-at (scheduledAt (p .chained) (p .kinds)) (p .units) e i l in
+      false≢true (rw (member-marked p sound marked i l j h m, four) at test)
+
+  pub scheduled-rule : Scheduled p → membersScheduled p ≡ true
+  unfolding membersScheduled
+  scheduled-rule s =
+      every-all (scheduledAt (p .chained) (p .kinds)) (p .units)
+      (λ i l. go i l (getD (p .chained) i false) refl (eqb (getD (p .kinds) i 0) 4) refl)
+    where
+      go : (i : ℕ) → i < p .units → (chained : Bool) → getD (p .chained) i false ≡ chained
+          → (four : Bool) → eqb (getD (p .kinds) i 0) 4 ≡ four → not (chained && four) ≡ true
+      go i l false c four e = refl
+      go i l true c false e = refl
+      go i l true c true e =
+          let found = marked-member p sound marked i l c in
+          absurd (s i (found .0) l (found .1 .0) (found .1 .1) (eqb-true _ _ e))
+
 -- ---- the chains of a loaded plant
 
 module _ (p : Plant) (loaded : Loaded p) where
@@ -177,6 +237,9 @@ module _ (p : Plant) (loaded : Loaded p) where
 
   pub loaded-apart : Apart p
   loaded-apart = once-apart p inside (loaded .once)
+
+  pub loaded-scheduled : Scheduled p
+  loaded-scheduled = rule-scheduled p (loaded .sound) (loaded .marked) (loaded .scheduled)
 
   -- at most n units in all chains together, and in each
   pub all-few : length (allMembers p) ≤ p .units
@@ -213,38 +276,11 @@ module _ (p : Plant) (loaded : Loaded p) where
         go zero h = absurd (omega arith)
         go (suc i) h = rw (eq-eqb (suc i) (suc i) refl) (omega arith)
 
-  -- ---- a unit is marked exactly when some chain has it
-
   pub marked-length : length (p .chained) ≡ 64
   marked-length = ap length (loaded .marked) ∙ length-chained p
 
-  module _ (i : ℕ) (l : i < p .units) where
-    pub marked-at : getD (p .chained) i false ≡ leb 1 (timesIn (suc i) (allMembers p))
-    unfolding chainedOf metAt
-    marked-at =
-        ap (λ (xs : List Bool). getD xs i false) (loaded .marked)
-        ∙ getD-sweep (metAt p) (p .units) (replicate 64 false) false i l (omega (arith, length-replicate 64 false, sound-units p (loaded .sound)))
-
-    pub marked-member : getD (p .chained) i false ≡ true → (j : ℕ) × ((j < p .aggregates) × (1 ≤ timesIn (suc i) (membersOf p j)))
-    unfolding allMembers
-    marked-member e =
-        times-somewhere (membersOf p) (suc i) (p .aggregates) (leb-true 1 (timesIn (suc i) (records (membersOf p) (p .aggregates))) (sym marked-at ∙ e))
-
-    pub member-marked : (j : ℕ) → j < p .aggregates → 1 ≤ timesIn (suc i) (membersOf p j) → getD (p .chained) i false ≡ true
-    unfolding allMembers
-    member-marked j h m =
-        let t = times-one (membersOf p) (suc i) (p .aggregates) j h in
-        marked-at ∙ le-leb 1 (timesIn (suc i) (records (membersOf p) (p .aggregates))) (omega arith)
-
-    pub unmarked-member : getD (p .chained) i false ≡ false → (j : ℕ) → j < p .aggregates → timesIn (suc i) (membersOf p j) ≡ 0
-    unfolding allMembers
-    unmarked-member e j h =
-        let t = times-one (membersOf p) (suc i) (p .aggregates) j h in
-        let o = leb-false 1 (timesIn (suc i) (records (membersOf p) (p .aggregates))) (sym marked-at ∙ e) in
-        omega arith
-
-    -- a unit in no chain has next 0
-    pub unmarked-ends : getD (p .chained) i false ≡ false → getD (p .next) i 0 ≡ 0
-    unfolding restEnds
-    unmarked-ends e =
-        eqb-true (getD (p .next) i 0) 0 (rw e at (every-at (endsAt (p .chained) (p .next)) (p .units) (loaded .ends) i l))
+  -- a unit in no chain has next 0
+  pub unmarked-ends : (i : ℕ) → i < p .units → getD (p .chained) i false ≡ false → getD (p .next) i 0 ≡ 0
+  unfolding restEnds
+  unmarked-ends i l e =
+      eqb-true (getD (p .next) i 0) 0 (rw e at (every-at (endsAt (p .chained) (p .next)) (p .units) (loaded .ends) i l))

@@ -16,7 +16,7 @@ use Rattle.register.specs.declared.visits.Walk.{Walk}
 use Rattle.register.specs.Fields.{unitCount, aggregateCount, lengthsAt, fieldAt, kindsOf, nextsOf, headsOf, fieldsOf}
 use Rattle.register.specs.Chains.{allMembers, chainedOf, withChains}
 use Rattle.register.specs.Rules.{countsIn, wholeLength, spareAt, headerSpare, unitsSpare, headsSpare}
-use Rattle.register.specs.Plants.{kindsKnown, indicesIn, metOnce, restEnds, plantSound}
+use Rattle.register.specs.Plants.{kindsKnown, indicesIn, metOnce, restEnds, membersScheduled, plantSound}
 use Rattle.register.specs.Registers.{refusedBy, acceptedAs, lengthsRise, fieldsKnown, chainedFrom, recordsFrom, registeredOf}
 use Rattle.register.specs.Walks.{Headed, unwalked, walked}
 use Rattle.register.proofs.Soundness.{counts-in, counts-least, counts-units, counts-aggregates, sound-by, sound-units, sound-indices}
@@ -126,7 +126,7 @@ module _ (bytes : List ℕ) (p : Plant) (read : p ≡ fieldsOf bytes) (ready : H
       pub read-sound : not inside ≡ false → plantSound p ≡ true
       read-sound e = sound-by p counts kinds (passed i e)
 
--- ---- refusals 6 and 7
+-- ---- refusals 6, 7 and 30
 
 module _ (p : Plant) (sound : plantSound p ≡ true) (w : Walk) (e : w ≡ walked unwalked (allMembers p)) where
   twice-is : w .twice ≡ not (metOnce p)
@@ -155,6 +155,23 @@ module _ (p : Plant) (sound : plantSound p ≡ true) (w : Walk) (e : w ≡ walke
       unfolding chainedFrom
       walked-7 r q t = rw (q, once, failed ends-is t)
 
-      pub walked-accepted : not ends ≡ false → _≡_ {A = Registered} (record { answer = Accepted (w .steps); plant = whole }) (chainedFrom p)
-      unfolding chainedFrom acceptedAs
-      walked-accepted t = rw (marked-is, e, walk-steps p (sound-indices p sound) (sound-units p sound), once, passed ends-is t)
+      module _ (end : not ends ≡ false) (scheduled : Bool) (s : scheduled ≡ membersScheduled whole) where
+        scheduled-is : scheduled ≡ membersScheduled (withChains p)
+        scheduled-is = s ∙ rw marked-is
+
+        pub walked-30 : (r : Registered) → r ≡ refusedBy 30 → not scheduled ≡ true → r ≡ chainedFrom p
+        unfolding chainedFrom
+        walked-30 r q t = rw (q, once, passed ends-is end, failed scheduled-is t)
+
+        pub walked-accepted : not scheduled ≡ false
+            → _≡_ {A = Registered} (record { answer = Accepted (w .steps); plant = whole }) (chainedFrom p)
+        unfolding chainedFrom acceptedAs
+        walked-accepted t =
+            rw (
+              marked-is,
+              e,
+              walk-steps p (sound-indices p sound) (sound-units p sound),
+              once,
+              passed ends-is end,
+              passed scheduled-is t,
+            )

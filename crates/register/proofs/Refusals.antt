@@ -14,7 +14,7 @@ use Rattle.register.specs.declared.Registered.{Registered}
 use Rattle.register.specs.Fields.{unitCount, aggregateCount, fieldsOf}
 use Rattle.register.specs.Chains.{membersOf, allMembers, withChains}
 use Rattle.register.specs.Rules.{longEnough, countsIn, wholeLength}
-use Rattle.register.specs.Plants.{indicesIn, metOnce, restEnds}
+use Rattle.register.specs.Plants.{indicesIn, metOnce, restEnds, membersScheduled}
 use Rattle.register.specs.Registers.{answerNumber, answerVisits, unless, noPlant, refusedBy, acceptedAs, lengthsRise, fieldsKnown}
 use Rattle.register.specs.Registers.{chainedFrom, recordsFrom, registeredOf, registerRefusal, Reads}
 
@@ -46,7 +46,8 @@ register-goes bytes =
     (unless-goes 4 (lit< tt) (fieldsKnown bytes)
     (unless-goes 5 (lit< tt) (indicesIn p)
     (unless-goes 6 (lit< tt) (metOnce p)
-    (unless-goes 7 (lit< tt) (restEnds (withChains p)) (accepted-goes p))))))))
+    (unless-goes 7 (lit< tt) (restEnds (withChains p))
+    (unless-goes 30 (lit< tt) (membersScheduled (withChains p)) (accepted-goes p)))))))))
 
 -- what reading promises of its result
 pub reads : (bytes : List ℕ) (r : Registered) → r ≡ registeredOf bytes → Reads bytes r

@@ -1,9 +1,9 @@
--- The rules over a whole plant, 4 to 7, and the test that a plant passes whoever made it.
+-- The rules over a whole plant, 4 to 7 and 30, and the test that a plant passes whoever made it.
 use mathlib.Core.Bool.{Bool, _&&_}
 use Rattle.trace.specs.Sweeps.{every}
 use Rattle.register.specs.declared.Plant.{Plant}
 use Rattle.register.specs.Chains.{allMembers}
-use Rattle.register.specs.Rules.{countsIn, kindAt, nextAt, headAt, onceAt, endsAt}
+use Rattle.register.specs.Rules.{countsIn, kindAt, nextAt, headAt, onceAt, endsAt, scheduledAt}
 
 -- 4: every kind
 unfoldable pub kindsKnown : Plant → Bool
@@ -20,6 +20,10 @@ metOnce p = every (onceAt (allMembers p)) (p .units)
 -- 7: every unit that is not marked as met
 unfoldable pub restEnds : Plant → Bool
 restEnds p = every (endsAt (p .chained) (p .next)) (p .units)
+
+-- 30: every unit that is marked as met
+unfoldable pub membersScheduled : Plant → Bool
+membersScheduled p = every (scheduledAt (p .chained) (p .kinds)) (p .units)
 
 -- counts, kinds and indices in range, so that chains can be followed
 unfoldable pub plantSound : Plant → Bool

@@ -1,5 +1,5 @@
 -- A register is refused by the first rule that it fails: short 1, then 2, length 1, 3, 4 over the whole register, 5 over the whole
--- register, 6, 7 (01, "Refused because of what was sent").
+-- register, 6, 7 (01, "Refused because of what was sent"), 30 (02, 2026-01).
 use mathlib.Core.Path.{_≡_}
 use mathlib.Core.Bool.{Bool, false, cond, _&&_, not}
 use mathlib.Core.List.{List, [], _∷_}
@@ -14,7 +14,7 @@ use Rattle.register.specs.declared.Registered.{Registered}
 use Rattle.register.specs.Fields.{unitCount, aggregateCount, lengthsAt, fieldsOf}
 use Rattle.register.specs.Chains.{allMembers, withChains}
 use Rattle.register.specs.Rules.{longEnough, countsIn, wholeLength, rising, headerSpare, unitsSpare, headsSpare}
-use Rattle.register.specs.Plants.{kindsKnown, indicesIn, metOnce, restEnds}
+use Rattle.register.specs.Plants.{kindsKnown, indicesIn, metOnce, restEnds, membersScheduled}
 
 -- ---- the answer in 01's numbers
 
@@ -66,9 +66,9 @@ lengthsRise bytes = rising (lengthsAt bytes 2) && rising (lengthsAt bytes 5)
 unfoldable pub fieldsKnown : List ℕ → Bool
 fieldsKnown bytes = (headerSpare bytes && kindsKnown (fieldsOf bytes)) && (unitsSpare bytes && headsSpare bytes)
 
--- 6 and 7, over the chains
+-- 6, 7 and 30, over the chains
 unfoldable pub chainedFrom : Plant → Registered
-chainedFrom p = unless (metOnce p) 6 (unless (restEnds (withChains p)) 7 (acceptedAs p))
+chainedFrom p = unless (metOnce p) 6 (unless (restEnds (withChains p)) 7 (unless (membersScheduled (withChains p)) 30 (acceptedAs p)))
 
 -- 4 and 5, over the whole register
 unfoldable pub recordsFrom : List ℕ → Registered
@@ -85,7 +85,7 @@ registeredOf bytes =
 -- ---- the refusal
 
 -- the number in 01 of the first rule that the bytes fail, 0 where they fail none: "Register order: short 1, then 2, length 1, 3, then
--- 4 over the whole register, then 5 over the whole register, then 6, 7"
+-- 4 over the whole register, then 5 over the whole register, then 6, 7", and "30: kind 4 in a chain, after 7"
 unfoldable pub registerRefusal : List ℕ → ℕ
 registerRefusal bytes =
     firstOf
@@ -97,6 +97,7 @@ registerRefusal bytes =
     ∷ (5, not (indicesIn (fieldsOf bytes)))
     ∷ (6, not (metOnce (fieldsOf bytes)))
     ∷ (7, not (restEnds (withChains (fieldsOf bytes))))
+    ∷ (30, not (membersScheduled (withChains (fieldsOf bytes))))
     ∷ [])
 
 -- ---- what reading promises

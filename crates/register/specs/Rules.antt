@@ -1,5 +1,5 @@
--- One test for each rule (01, "The register" and "Refused because of what was sent").
-use mathlib.Core.Bool.{Bool, false, _&&_, _||_}
+-- One test for each rule (01, "The register" and "Refused because of what was sent"; 02, 2026-01).
+use mathlib.Core.Bool.{Bool, false, _&&_, _||_, not}
 use mathlib.Core.List.{List}
 use Prim.Native.Nat.{ℕ, suc, _+_, _*_}
 use lib.Dec.{leb, ltb, eqb}
@@ -25,10 +25,10 @@ countsIn units aggregates = (leb 1 units && leb units 64) && leb aggregates 16
 abbrev pub rising : Lengths → Bool
 rising l = leb 2 (l .«not_responding») && (ltb (l .«not_responding») (l .pending) && ltb (l .pending) (l .declaration))
 
--- 4: kinds 1 to 3, and zeros in every spare byte
+-- 4: kinds 1 to 4, and zeros in every spare byte
 
 abbrev pub kindKnown : ℕ → Bool
-kindKnown kind = leb 1 kind && leb kind 3
+kindKnown kind = leb 1 kind && leb kind 4
 
 abbrev pub kindAt : List ℕ → ℕ → Bool
 kindAt kinds i = kindKnown (getD kinds i 0)
@@ -64,3 +64,7 @@ onceAt members i = leb (timesIn (suc i) members) 1
 -- 7: a unit that no chain met has next 0
 abbrev pub endsAt : List Bool → List ℕ → ℕ → Bool
 endsAt chained next i = getD chained i false || eqb (getD next i 0) 0
+
+-- 30: "kind 4 in a chain": a unit that a chain met is scheduled, and not semi-scheduled
+abbrev pub scheduledAt : List Bool → List ℕ → ℕ → Bool
+scheduledAt chained kinds i = not (getD chained i false && eqb (getD kinds i 0) 4)

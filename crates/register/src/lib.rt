@@ -1,4 +1,4 @@
-// Reads a register (01, "The register"): the plant and the visits along its chains, or the number of its refusal.
+// Reads a register (01, "The register"; 02, 2026-01): the plant and the visits along its chains, or the number of its refusal.
 
 mod header;
 mod plants;
@@ -137,7 +137,7 @@ fn marked(plant: Plant, met: [bool; 64]) -> Plant
     }
 }
 
-// Refusals 6 and 7, or the plant with each unit marked that a chain met.
+// Refusals 6, 7 and 30, or the plant with each unit marked that a chain met.
 fn chained_from(plant: Plant) -> Registered
     requires { ⌜ plantSound plant ≡ true ⌝ }
     ensures { λ r. ⌜ r ≡ chainedFrom plant ⌝ }
@@ -149,8 +149,12 @@ fn chained_from(plant: Plant) -> Registered
     let met = walk.met;
     let whole = marked(plant, met);
     let ends = plants::rest_ends(whole);
+    let scheduled = plants::members_scheduled(whole);
     if !ends {
         return refused(7);
+    }
+    if !scheduled {
+        return refused(30);
     }
     Registered {
         answer: Answer::Accepted(walk.steps),

@@ -5,7 +5,7 @@ ghost use Prim.Native.Nat.{_≤_};
 ghost use lib.Dec.{leb};
 ghost use Rattle.trace.specs.Sweeps.{every};
 ghost use Rattle.register.specs.Rules.{kindKnown, nextAt, headAt};
-ghost use Rattle.register.specs.Plants.{kindsKnown, indicesIn, restEnds, plantSound};
+ghost use Rattle.register.specs.Plants.{kindsKnown, indicesIn, restEnds, membersScheduled, plantSound};
 use crate::Plant;
 use crate::header;
 use crate::wide;
@@ -13,7 +13,7 @@ use crate::wide;
 fn known_kind(kind: u8) -> bool
     ensures { λ r. ⌜ r ≡ kindKnown kind ⌝ }
 {
-    (1 <= kind) & (kind <= 3)
+    (1 <= kind) & (kind <= 4)
 }
 
 pub(crate) fn known_kinds(plant: Plant) -> bool
@@ -87,6 +87,21 @@ pub(crate) fn rest_ends(plant: Plant) -> bool
     let mut i = 0;
     while i < count {
         ok &= plant.chained[i] | (plant.next[i] == 0);
+        i += 1;
+    }
+    ok
+}
+
+// No unit that a chain met is semi-scheduled.
+pub(crate) fn members_scheduled(plant: Plant) -> bool
+    requires { ⌜ plant .units ≤ 64 ⌝ }
+    ensures { λ r. ⌜ r ≡ membersScheduled plant ⌝ }
+{
+    let count = plant.units;
+    let mut ok = true;
+    let mut i = 0;
+    while i < count {
+        ok &= !(plant.chained[i] & (plant.kinds[i] == 4));
         i += 1;
     }
     ok

@@ -35,9 +35,15 @@ fn put_rates(out: &mut [u8], at: usize, f: Fields) -> usize {
     put_whole(out, next, telemetry::kilowatts(readings.ramp_down))
 }
 
-fn put_fields(out: &mut [u8], at: usize, f: Fields) -> usize {
+// Quality, conformance mode and cap flag.
+fn put_head(out: &mut [u8], at: usize, f: Fields) -> usize {
     let mut next = put_quality(out, at, f.power());
     next = put_number(out, next, f.mode as u32);
+    put_number(out, next, if f.capped { 1 } else { 0 })
+}
+
+fn put_fields(out: &mut [u8], at: usize, f: Fields) -> usize {
+    let mut next = put_head(out, at, f);
     next = put_whole(out, next, f.target);
     next = put_number(out, next, f.availability);
     next = put_number(out, next, f.raise);

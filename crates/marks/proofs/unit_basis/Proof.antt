@@ -12,8 +12,8 @@ start c = c .before .before .before
 abbrev power : tie.After-widened2 → tie.After-widened
 power c = c .before .before .before
 
-abbrev sides : tie.After-is-doubtful → tie.After-down-of
-sides c = c .before .before
+abbrev sides : tie.After-is-capped → tie.After-down-of
+sides c = c .before .before .before
 
 power-requires : tie.Need-power-requires
 power-requires c κs = search needs
@@ -42,6 +42,9 @@ unit-rate-requires c κs = search needs
 is-doubtful-requires : tie.Need-is-doubtful-requires
 is-doubtful-requires c κs = search needs
 
+is-capped-requires : tie.Need-is-capped-requires
+is-capped-requires c κs = search needs
+
 returns : tie.Need-returns
 unfolding unitBasis
 returns c =
@@ -69,4 +72,5 @@ unit-basis-spec =
     down-of-requires
     unit-rate-requires
     is-doubtful-requires
+    is-capped-requires
     returns)

@@ -16,7 +16,7 @@ start c = c .before .before .before
 kind-is : (c : tie.Then1) → start c .args .kind % 256 ≡ start c .args .kind
 kind-is c =
     let kind = start c .args .kind in
-    let known : kind ≤ 3 = search (and-r, leb-true) in
+    let known : kind ≤ 4 = search (and-r, leb-true) in
     mod-eq-of-lt (omega arith)
 
 cast-second-mark : tie.Need-cast-second-mark
