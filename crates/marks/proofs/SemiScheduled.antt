@@ -16,7 +16,7 @@ use Rattle.marks.specs.declared.Assessment.{Assessment}
 
 -- a kept line, and a line, with another flag
 abbrev keptWith : Bool → Kept → Kept
-keptWith capped k = record { have = k .have; target = k .target; raise = k .raise; lower = k .lower; capped = capped }
+keptWith capped k = record { have = k .have; capped = capped; target = k .target; raise = k .raise; lower = k .lower }
 
 abbrev lineWith : Bool → Fields → Fields
 lineWith capped f =
@@ -76,7 +76,7 @@ module _ (f : Fields) (k : Kept) where
       go true h = rw (flag, h) (none-exceeds _ _ _, refl, refl)
       go false h = absurd (false≢true h)
 
-  -- "This line's own flag is only kept", and the kept one plays no part for other kinds
+  -- "The flag is kept with the target": this line's own plays no part yet, and the kept one none for other kinds
   pub own-flag : (kind : ℕ) (chained capped : Bool) → readableAssessment kind chained (lineWith capped f) k ≡ readableAssessment kind chained f k
   unfolding readableAssessment knownAssessment judged unitBasis isKnown powerOf
   own-flag kind chained capped = refl

@@ -159,8 +159,4 @@ error-size b s =
 
 pub counted-size : (capped : Bool) (error : ℤ) → natAbs (countedOf capped error) ≤ natAbs error
 unfolding countedOf
-counted-size capped error = go (capped && ltZ error (pos 0))
-  where
-    go : (b : Bool) → natAbs (cond b (pos 0) error) ≤ natAbs error
-    go true = omega arith
-    go false = omega arith
+counted-size capped error = omega (arith, either-size (capped && ltZ error (pos 0)) (pos 0) error)

@@ -19,7 +19,7 @@ Triggers availability rate small large = (smallTrigger availability rate ≡ sma
 
 -- "kept MWB 100,000 and FCR 5,000, FCL 0"
 abbrev pub keptRow : Kept
-keptRow = record { have = true; target = pos 100000; raise = 5000; lower = 0; capped = false }
+keptRow = record { have = true; capped = false; target = pos 100000; raise = 5000; lower = 0 }
 
 -- "kind .. in no chain, good line, .. both triggers 600,000, MW .." gives the mark and the error, whatever else the line holds
 abbrev pub Assessed : ℕ → ℤ → Mark → ℤ → Type 0

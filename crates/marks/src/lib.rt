@@ -135,10 +135,10 @@ fn capability_of(readings: Readings, availability: u32, bid_up: u32, bid_down: u
 // What the interval before left of a unit's line. Without `have` the rest is 0 and false. The cap flag plays a part for kind 4 alone.
 pub struct Kept {
     pub have: bool,
+    pub capped: bool,
     pub target: i32,
     pub raise: u32,
     pub lower: u32,
-    pub capped: bool,
 }
 
 pub fn nothing_kept() -> Kept
@@ -146,10 +146,10 @@ pub fn nothing_kept() -> Kept
 {
     Kept {
         have: false,
+        capped: false,
         target: 0,
         raise: 0,
         lower: 0,
-        capped: false,
     }
 }
 
@@ -160,10 +160,10 @@ pub fn kept_from(line: Line) -> Kept
     match line {
         Line::Readable(f) => Kept {
             have: true,
+            capped: f.capped,
             target: f.target,
             raise: f.raise,
             lower: f.lower,
-            capped: f.capped,
         },
         Line::Unreadable => nothing_kept(),
     }
