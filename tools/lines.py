@@ -3,7 +3,7 @@ import struct
 import sys
 from fractions import Fraction
 
-BUFFER = 65536  # the bytes that a trial program reads
+BLOCK = 65536  # the bytes that a trial program reads at once
 UNSIGNED = ["availability", "raise", "lower", "bid up", "bid down"]
 READINGS = ["MW", "ramp up", "ramp down"]
 
@@ -30,14 +30,36 @@ def labelled(label):
     return bytes([len(label)]) + label.encode("ascii")
 
 
-def write_or_check(arguments, usage, crate, cases):
-    """Writes stdin and stdout of the crate, or with --check says which differs. A case: label, what the program reads, answer."""
+def in_blocks(pieces, most):
+    """The pieces one after the other, in blocks of which there are at most so many.
+
+    No piece straddles two blocks: where the next one does not fit into what is left of a block, zeros fill that up. A piece
+    begins with the length of its label, which is never 0, so a zero there, or the end of the block, ends a block's pieces.
+    """
+    out = bytearray()
+    for piece in pieces:
+        if len(piece) > BLOCK:
+            sys.exit(f"a case has {len(piece)} bytes; a block has {BLOCK}")
+        left = -len(out) % BLOCK  # 0 at the start of a block
+        if len(piece) > left:
+            out += bytes(left)
+        out += piece
+    if len(out) > most * BLOCK:
+        sys.exit(f"{len(out)} bytes of cases; there is room for {most} x {BLOCK}")
+    return bytes(out)
+
+
+def write_or_check(arguments, usage, crate, cases, blocks=1):
+    """Writes stdin and stdout of the crate, or with --check says which differs. A case: label, what the program reads, answer.
+
+    The program reads so many blocks at most.
+    """
     if arguments not in ([], ["--check"]):
         sys.exit(usage)
     labels = [label for label, _, _ in cases]
+    assert all(labels), "a label is empty"
     assert len(labels) == len(set(labels)), "a label stands twice"
-    given = b"".join(labelled(label) + content for label, content, _ in cases)
-    assert len(given) <= BUFFER, len(given)
+    given = in_blocks((labelled(label) + content for label, content, _ in cases), blocks)
     text = "".join(f"{label}: {answer}\n" for label, _, answer in cases)
     made = {crate / "stdin": given, crate / "stdout": text.encode("ascii")}
     if arguments:

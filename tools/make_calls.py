@@ -5,10 +5,10 @@
     make_calls.py --check   writes nothing; exit 1 where a file differs from what would be written, or where the lines of the
                             group that two lists share, `alike_1` and `alike_2` among them, are not equal
 
-Every expected line is worked out by hand from 01, and for kind 4 from 02, 2026-01; nothing here computes a mark, and no monitor
-is run. A step of a list is a call's bytes and the lines that it prints. A point's line is interval, point, status (0 Normal,
-1 Off-Target, 2 Not-Responding, 3 NC-Pending, 4 Non-Conforming), mark (0 OFF, 1 BLANK, 2 CLEAR, 3 DOUBT, 4 SMALL, 5 LARGE), small
-run, large run, error, small trigger, level.
+Every expected line is worked out by hand from 01, for kind 4 from 02, 2026-01, and for levels from 02, 2026-02; nothing here
+computes a mark or a level, and no monitor is run. A step of a list is a call's bytes and the lines that it prints. A point's line
+is interval, point, status (0 Normal, 1 Off-Target, 2 Not-Responding, 3 NC-Pending, 4 Non-Conforming), mark (0 OFF, 1 BLANK,
+2 CLEAR, 3 DOUBT, 4 SMALL, 5 LARGE), small run, large run, error, small trigger, level.
 
 tests/calls/alike_*/group has the numbers of the output's lines that belong to the group, one a line. Two lists that are alike
 have one name but for its end, _1 and _2.
@@ -68,6 +68,20 @@ def accepted(buffer, *lines):
 def refused(name, number, *calls):
     """Calls of one name that are all refused with one number."""
     return b"".join(calls), *[f"{name} refused {number}"] * len(calls)
+
+
+def looks(*answers):
+    """A look at each point from 1 on."""
+    return [(look(point), f"look accepted {answer}") for point, answer in enumerate(answers, 1)]
+
+
+def reinstated(*points):
+    return [(reinstate(point), "reinstate accepted") for point in points]
+
+
+def numbered(number, texts):
+    """What is printed of the points from 1 on at an interval."""
+    return [f"{number} {point} {text}" for point, text in enumerate(texts, 1)]
 
 
 # ---- lines of a unit
@@ -174,8 +188,9 @@ def operator_declaration():
             "21 3 1 5 1 1 -10000 600000 0",  # -((-50,000) - (-60,000))
             "21 4 1 5 1 1 -10000 600000 0",  # MW -100,000 - 60,000 = -160,000 against -150,000
         ),
-        # Status 1 and status 0 cannot be declared.
+        # Status 1 and status 0 cannot be declared. A generating unit and a load have no level below 0: 11 goes before 22.
         refused("declare", 22, declare(1, 107_000), declare(2, 0)),
+        refused("declare", 11, declare(1, -1), declare(2, -1)),
         accepted(
             at(22, MANUAL, 107.0, -60.0),
             "22 1 2 5 2 2 7000 600000 0",
@@ -201,7 +216,7 @@ def operator_declaration():
             "23 4 4 5 0 0 -10000 600000 -128000000",
         ),
         (look(1), "look accepted 2 3 3 0"),
-        refused("declare", 11, declare(1, 128_000_001)),
+        refused("declare", 11, declare(1, 128_000_001), declare(1, -107_000)),
         # The highest level.
         (declare(1, 128_000_000), "declare accepted"),
         (look(1), "look accepted 4 0 0 128000000"),
@@ -269,7 +284,7 @@ def refusals_without_register():
     chained = register(LENGTHS, [(GENERATING, 2), one], [1])  # 16 header, 16-19 unit 1, 20-23 unit 2, 24-27 head
     return [
         refused("interval", 20, given(interval(1, AUTOMATIC, plain(100.0)), 16), given(b"", 0), given(bytes(48), 7)),
-        refused("declare", 20, declare(1, 0), declare(0, -(2**31))),
+        refused("declare", 20, declare(1, 0), declare(1, -1), declare(0, -1), declare(0, -(2**31))),
         refused("reinstate", 20, reinstate(1), reinstate(0)),
         refused("look", 20, look(1), look(2**32 - 1)),
         # 1: under 16 bytes, whatever they are.
@@ -356,11 +371,13 @@ def refusals_with_register():
         refused("interval", 8, given(at(7, AUTOMATIC, 107.0), 64)),
         refused("interval", 9, given(headed(7, 1, 0, 0, 1), 48)),
         # 10; it goes before 11, 22 and 23.
-        refused("declare", 10, *[declare(point, 0) for point in beyond], declare(4, 128_000_001)),
+        refused("declare", 10, *[declare(point, 0) for point in beyond], *[declare(point, -1) for point in beyond],
+                declare(4, 128_000_001)),
         refused("reinstate", 10, *[reinstate(point) for point in beyond]),
         refused("look", 10, *[look(point) for point in beyond]),
-        # 11, either sign; it goes before 22: the point is Normal.
-        refused("declare", 11, declare(1, 128_000_001), declare(1, -128_000_001), declare(3, 2**31 - 1), declare(3, -(2**31))),
+        # 11, either sign; it goes before 22: the point is Normal. A generating unit has no level below 0, member or not.
+        refused("declare", 11, declare(1, 128_000_001), declare(1, -128_000_001), declare(3, 2**31 - 1), declare(3, -(2**31)),
+                declare(1, -1), declare(2, -128_000_000)),
         # 22 at status 0, 23 at status 0.
         refused("declare", 22, declare(1, 0), declare(2, 128_000_000), declare(3, -128_000_000)),
         refused("reinstate", 23, reinstate(1), reinstate(2), reinstate(3)),
@@ -736,6 +753,450 @@ def solar_plant():
     ]
 
 
+# ---- levels (02, 2026-02)
+
+
+def rows(head, errors, levels=None, trigger=600_000):
+    """Points of one status, mark and runs, given as `head`; without levels, none is declared."""
+    levels = levels or [0] * len(errors)
+    return [f"{head} {error} {trigger} {level}" for error, level in zip(errors, levels, strict=True)]
+
+
+def standing(*levels):
+    """A look at each point from 1 on, all declared at these levels."""
+    return looks(*[f"4 0 0 {level}" for level in levels])
+
+
+def levels():
+    """Automatic declarations of units in no chain: 1 to 3 generating units, 4 to 6 loads, 7 to 9 bidirectional units, 10 a
+    semi-scheduled unit. Of each three one has MW of -300 kW, one 0 and one 1, and these go round.
+
+    The level is the greater of MW and 0 for kinds 1, 2 and 4, and MW for kind 3.
+    """
+    kinds = [GENERATING] * 3 + [LOAD] * 3 + [BIDIRECTIONAL] * 3 + [SEMI_SCHEDULED]
+
+    def at(number, sent, powers, sun, texts, mode=AUTOMATIC, target=100_000, **changes):
+        """Lines of one form, `plain` or `wide`. Unit 10 has a target of 0 throughout, and its cap flag is 1."""
+        lines = [sent(mw, mwb=target, **changes) for mw in powers * 3]
+        lines.append(sent(sun, mwb=0, cap=1, **changes))
+        return accepted(interval(number, mode, *lines), *numbered(number, texts))
+
+    # Target 100,000 and `plain`: -(100,000 - (-300)), -(100,000 - 0) and -(100,000 - 1) are LARGE. Unit 10: 6,001 - 0 is LARGE.
+    first_powers = [-0.3, 0.0, 0.001]
+    first_errors = [-100_300, -100_000, -99_999] * 3 + [6_001]
+    first = [0, 0, 1, 0, 0, 1, -300, 0, 1, 6_001]
+    # Target 8,000 and `wide`: -(8,000 - 1), -(8,000 - (-300)) and -(8,000 - 0) are SMALL. So is unit 10's 8,000 - 0.
+    second_powers = [0.001, -0.3, 0.0]
+    second_errors = [-7_999, -8_300, -8_000] * 3 + [8_000]
+    second = [1, 0, 0, 1, 0, 0, 1, -300, 0, 8_000]
+    # Target 100,000 and `plain` again.
+    third_powers = [0.0, 0.001, -0.3]
+    third_errors = [-100_000, -99_999, -100_300] * 3 + [6_002]
+    third = [0, 1, 0, 0, 1, 0, 0, 1, -300, 6_002]
+    return [
+        (load(register(LENGTHS, [(kind, 0) for kind in kinds])), "load accepted 0"),
+        # Nothing kept.
+        at(1, plain, first_powers, 6.001, ["0 1 0 0 0 0 0"] * 10),
+        at(2, plain, first_powers, 6.001, rows("1 5 1 1", first_errors)),
+        at(3, plain, first_powers, 6.001, rows("2 5 2 2", first_errors)),
+        at(4, plain, first_powers, 6.001, rows("3 5 3 3", first_errors)),
+        *looks(*["3 3 3 0"] * 10),
+        # Run 4: declared.
+        at(5, plain, first_powers, 6.001, rows("4 5 0 0", first_errors, first)),
+        *standing(*first),
+        # On target: the levels stand.
+        at(6, plain, [100.0] * 3, 0.0, rows("4 2 0 0", [0] * 10, first)),
+        # -(100,000 - (-500)) is LARGE, and by `wide` unit 10's 7,500 - 0 SMALL: the levels stand.
+        at(7, wide, [-0.5] * 3, 7.5, rows("4 5 0 0", [-100_500] * 9, first[:9]) + ["4 4 0 0 7500 600000 6001"], target=8_000),
+        *standing(*first),
+        *reinstated(*range(1, 11)),
+        *looks(*["0 0 0 0"] * 10),
+        # Declared again, by the small run.
+        at(8, wide, second_powers, 8.0, rows("1 4 1 0", second_errors), target=8_000),
+        at(9, wide, second_powers, 8.0, rows("2 4 2 0", second_errors), target=8_000),
+        at(10, wide, second_powers, 8.0, rows("3 4 3 0", second_errors), target=8_000),
+        at(11, wide, second_powers, 8.0, rows("4 4 0 0", second_errors, second), target=8_000),
+        *standing(*second),
+        *reinstated(*range(1, 11)),
+        # A backlog in manual mode at other MW: at 12 50,000 - 8,000, then -(100,000 - 50,000); unit 10: 50,000 - 0.
+        at(12, plain, [50.0] * 3, 50.0, rows("1 5 1 1", [42_000] * 9 + [50_000]), mode=MANUAL),
+        at(13, plain, [50.0] * 3, 50.0, rows("2 5 2 2", [-50_000] * 9 + [50_000]), mode=MANUAL),
+        at(14, plain, [50.0] * 3, 50.0, rows("2 5 3 3", [-50_000] * 9 + [50_000]), mode=MANUAL),
+        # Declared by the MW of the mark that declares.
+        at(15, plain, third_powers, 6.002, rows("4 5 0 0", third_errors, third)),
+        *standing(*third),
+        # Bad, then after a jump nothing kept: BLANK, without a trigger, and the levels stand.
+        at(16, plain, [-0.3] * 3, 0.0, rows("4 1 0 0", [0] * 10, third, trigger=0), quality=BAD),
+        at(20, plain, [-0.3] * 3, 0.0, rows("4 1 0 0", [0] * 10, third, trigger=0)),
+        *standing(*third),
+    ]
+
+
+def levels_in_chains():
+    """Automatic declarations of members and aggregates: chains 1 -> 2 -> 3, 4 -> 5 -> 6 and 7 -> 8 -> 9 (generating unit, load,
+    bidirectional unit) are points 10 to 12. Of the aggregates one has a sum of -300 kW, one of 0 and one of 1, and so have each
+    three of a kind as MW; these go round.
+
+    An aggregate's level is the sum of its members' MW as sent, loads subtracted, and may be below 0.
+    """
+    three = GENERATING, LOAD, BIDIRECTIONAL
+    units = [(kind, 0 if kind == BIDIRECTIONAL else unit + 1) for unit, kind in enumerate(three * 3, 1)]
+
+    def at(number, sent, targets, powers, texts, mode=2):
+        """Lines of one form, `plain` or `wide`; targets of the three kinds, and MW of the members of each chain."""
+        lines = [sent(mw, mwb=target, mode=mode) for chain in powers for mw, target in zip(chain, targets, strict=True)]
+        return accepted(interval(number, AUTOMATIC, *lines), *numbered(number, texts))
+
+    # The sums are -300 - 1 + 1 = -300, 0 + 300 - 300 = 0 and 1 - 0 + 0 = 1. A floor on each member would give 0, -300 and 1.
+    a, b, c = (-0.3, 0.001, 0.001), (0.0, -0.3, -0.3), (0.001, 0.0, 0.0)
+
+    # `plain`: -(100,000 - MW) for a generating unit and for a load, MW + 100,000 for a bidirectional unit. The aggregates' target
+    # is 100,000 - 100,000 - 100,000, so their error is their sum + 100,000; MWO max(200,000, 100,000), ROC max(6,000, 3,000): small
+    # trigger max(600,000, min(600,000, 1,200,000)), large max(600,000, min(1,000,000, 2,400,000)). All are LARGE.
+    far = 100_000, 100_000, -100_000
+    far_errors = [-100_300, -99_999, 100_001,  -100_000, -100_300, 99_700,  -99_999, -100_000, 100_000,  99_700, 100_000, 100_001]
+    first = [0, 1, 1,  0, 0, -300,  1, 0, 0,  -300, 0, 1]
+
+    # `wide`, in the order b, c, a: -(8,000 - MW) is SMALL, the load's -(15,000 - MW) LARGE, MW + 8,000 SMALL. The aggregates'
+    # target is 8,000 - 15,000 - 8,000, so their error is their sum + 15,000; MWO max(400,000, 200,000), ROC max(18,000, 9,000):
+    # small trigger max(600,000, min(1,200,000, 3,600,000)), large max(600,000, min(2,000,000, 7,200,000)). They are SMALL.
+    near = 8_000, 15_000, -8_000
+    second = [0, 0, -300,  1, 0, 0,  0, 1, 1,  0, 1, -300]
+
+    def near_texts(status, run, levels=(0,) * 12):
+        small, large = f"{status} 4 {run} 0", f"{status} 5 {run} {run}"
+        texts = [f"{small} -8000 600000", f"{large} -15300 600000", f"{small} 7700 600000",
+                 f"{small} -7999 600000", f"{large} -15000 600000", f"{small} 8000 600000",
+                 f"{small} -8300 600000", f"{large} -14999 600000", f"{small} 8001 600000",
+                 f"{small} 15000 1200000", f"{small} 15001 1200000", f"{small} 14700 1200000"]
+        return [f"{text} {level}" for text, level in zip(texts, levels, strict=True)]
+
+    return [
+        (load(register(LENGTHS, units, [1, 4, 7])), "load accepted 9"),
+        # Nothing kept.
+        at(1, plain, far, (a, b, c), ["0 1 0 0 0 0 0"] * 12),
+        at(2, plain, far, (a, b, c), rows("1 5 1 1", far_errors)),
+        at(3, plain, far, (a, b, c), rows("2 5 2 2", far_errors)),
+        at(4, plain, far, (a, b, c), rows("3 5 3 3", far_errors)),
+        at(5, plain, far, (a, b, c), rows("4 5 0 0", far_errors, first)),
+        *standing(*first),
+        # On the kept targets, CLEAR: the levels stand. This line's MWO and rates give the aggregates 1,200,000.
+        at(6, wide, near, [(100.0, 100.0, -100.0)] * 3,
+           rows("4 2 0 0", [0] * 9, first[:9]) + rows("4 2 0 0", [0] * 3, first[9:], trigger=1_200_000)),
+        *reinstated(*range(1, 13)),
+        *looks(*["0 0 0 0"] * 12),
+        # Declared again.
+        at(7, wide, near, (b, c, a), near_texts(1, 1)),
+        at(8, wide, near, (b, c, a), near_texts(2, 2)),
+        at(9, wide, near, (b, c, a), near_texts(3, 3)),
+        at(10, wide, near, (b, c, a), near_texts(4, 0, second)),
+        *standing(*second),
+        # MW -5,000 each: -(8,000 + 5,000) and -(15,000 + 5,000) are LARGE, -5,000 + 8,000 CLEAR. The aggregates' sum is -5,000 +
+        # 5,000 - 5,000 = -5,000, and -5,000 + 15,000 CLEAR. The levels stand.
+        at(11, wide, near, [(-5.0, -5.0, -5.0)] * 3, [
+            "4 5 0 0 -13000 600000 0", "4 5 0 0 -20000 600000 0", "4 2 0 0 3000 600000 -300",
+            "4 5 0 0 -13000 600000 1", "4 5 0 0 -20000 600000 0", "4 2 0 0 3000 600000 0",
+            "4 5 0 0 -13000 600000 0", "4 5 0 0 -20000 600000 1", "4 2 0 0 3000 600000 1",
+            "4 2 0 0 10000 1200000 0", "4 2 0 0 10000 1200000 1", "4 2 0 0 10000 1200000 -300"]),
+        # All modes 0: OFF, and the levels stand.
+        at(12, wide, near, (a, b, c), rows("4 0 0 0", [0] * 12, second, trigger=0), mode=0),
+        *standing(*second),
+    ]
+
+
+def levels_of_one():
+    """Chains of one unit: 1 generating unit, 2 load, 3 bidirectional unit, 4 load. Points 5 to 8 are their aggregates.
+
+    A member's level is its own, its aggregate's the signed MW. Targets are 100,000, and -100,000 for unit 3. An aggregate of one
+    has its member's MWO and rates, so `plain`'s triggers: all are LARGE.
+    """
+    registered = register(LENGTHS, [(GENERATING, 0), (LOAD, 0), (BIDIRECTIONAL, 0), (LOAD, 0)], [1, 2, 3, 4])
+
+    def at(number, powers, texts):
+        one, two, three, four = powers
+        lines = plain(one, mode=2), plain(two, mode=2), plain(three, mwb=-100_000, mode=2), plain(four, mode=2)
+        return accepted(interval(number, AUTOMATIC, *lines), *numbered(number, texts))
+
+    # Unit 1 at -300: -(100,000 - (-300)), and so its aggregate. Load 2 at -300: the same; its aggregate is 300 - (-100,000).
+    # Unit 3 at -300: -300 - (-100,000), and so its aggregate. Load 4 at 300: -(100,000 - 300); its aggregate -300 - (-100,000).
+    powers = -0.3, -0.3, -0.3, 0.3
+    members, aggregates = [-100_300, -100_300, 99_700, -99_700], [-100_300, 100_300, 99_700, 99_700]
+    # 1, 0, -500 and 301: -(100,000 - 1); -100,000 and 0 - (-100,000); -500 - (-100,000); -(100,000 - 301) and -301 - (-100,000).
+    powers_2 = 0.001, 0.0, -0.5, 0.301
+    members_2, aggregates_2 = [-99_999, -100_000, 99_500, -99_699], [-99_999, 100_000, 99_500, 99_699]
+    # -0.6, -0.6, -0.4 and 0.6 kW become -1, -1, 0 and 1.
+    powers_3 = -0.0006, -0.0006, -0.0004, 0.0006
+    members_3, aggregates_3 = [-100_001, -100_001, 100_000, -99_999], [-100_001, 100_001, 100_000, 99_999]
+    return [
+        (load(registered), "load accepted 4"),
+        # Nothing kept.
+        at(1, powers, ["0 1 0 0 0 0 0"] * 8),
+        at(2, powers, rows("1 5 1 1", members + aggregates)),
+        at(3, powers, rows("2 5 2 2", members + aggregates)),
+        at(4, powers, rows("3 5 3 3", members + aggregates)),
+        at(5, powers, rows("4 5 0 0", members + aggregates, [0, 0, -300, 300, -300, 300, -300, -300])),
+        *standing(0, 0, -300, 300, -300, 300, -300, -300),
+        # The aggregates alone are reinstated and declared again; their members' levels stand.
+        *reinstated(5, 6, 7, 8),
+        at(6, powers_2, rows("4 5 0 0", members_2, [0, 0, -300, 300]) + rows("1 5 1 1", aggregates_2)),
+        at(7, powers_2, rows("4 5 0 0", members_2, [0, 0, -300, 300]) + rows("2 5 2 2", aggregates_2)),
+        at(8, powers_2, rows("4 5 0 0", members_2, [0, 0, -300, 300]) + rows("3 5 3 3", aggregates_2)),
+        at(9, powers_2, rows("4 5 0 0", members_2 + aggregates_2, [0, 0, -300, 300, 1, 0, -500, -301])),
+        *standing(0, 0, -300, 300, 1, 0, -500, -301),
+        # The members alone.
+        *reinstated(1, 2, 3, 4),
+        at(10, powers_3, rows("1 5 1 1", members_3) + rows("4 5 0 0", aggregates_3, [1, 0, -500, -301])),
+        at(11, powers_3, rows("2 5 2 2", members_3) + rows("4 5 0 0", aggregates_3, [1, 0, -500, -301])),
+        at(12, powers_3, rows("3 5 3 3", members_3) + rows("4 5 0 0", aggregates_3, [1, 0, -500, -301])),
+        at(13, powers_3, rows("4 5 0 0", members_3 + aggregates_3, [0, 0, 0, 1, 1, 0, -500, -301])),
+        # And the aggregates once more.
+        *reinstated(5, 6, 7, 8),
+        at(14, powers_3, rows("4 5 0 0", members_3, [0, 0, 0, 1]) + rows("1 5 1 1", aggregates_3)),
+        at(15, powers_3, rows("4 5 0 0", members_3, [0, 0, 0, 1]) + rows("2 5 2 2", aggregates_3)),
+        at(16, powers_3, rows("4 5 0 0", members_3, [0, 0, 0, 1]) + rows("3 5 3 3", aggregates_3)),
+        at(17, powers_3, rows("4 5 0 0", members_3 + aggregates_3, [0, 0, 0, 1, -1, 1, 0, -1])),
+        *standing(0, 0, 0, 1, -1, 1, 0, -1),
+    ]
+
+
+def operator_levels():
+    """The operator's levels for each kind and for aggregates. Chain 1 -> 2 -> 3 (generating unit, load, bidirectional unit) is
+    point 9, chain 8 (load) point 10; 4 to 7 are units of kinds 1 to 4 in no chain.
+
+    All are 107,000 against 100,000, `plain`: LARGE. The aggregates: 107,000 - 107,000 + 107,000 against 100,000, with MWO
+    max(200,000, 100,000) and ROC max(6,000, 3,000), so 600,000 and 1,000,000: SMALL; and -107,000 against -100,000, LARGE.
+    """
+    units = [(GENERATING, 2), (LOAD, 3), (BIDIRECTIONAL, 0), (GENERATING, 0), (LOAD, 0), (BIDIRECTIONAL, 0), (SEMI_SCHEDULED, 0),
+             (LOAD, 0)]
+    floored = 1, 2, 4, 5, 7, 8  # kinds 1, 2 and 4: no level below 0
+    signed = 3, 6, 9, 10  # kind 3 and aggregates
+    most, least = 2**31 - 1, -(2**31)
+    outside = 128_000_001, -128_000_001, most, least  # 11 for every point
+    below = -1, -300, -127_999_999, -128_000_000  # 11 for the floored ones
+    inside = 0, 1, 128_000_000
+    beyond = 0, 11, 257, 65_537, 2**31 + 1, 2**32 - 1  # points: 0, n+m+1, and some whose low bytes are 1
+
+    def at(number, mode, texts):
+        """What is printed of points 1 to 10."""
+        chained, alone, sun = plain(107.0, mode=2), plain(107.0), plain(107.0, cap=1)
+        return accepted(interval(number, mode, *[chained] * 3, *[alone] * 3, sun, chained), *numbered(number, texts))
+
+    def undeclared(status, run):
+        """All at that status, after so many marks."""
+        return [
+            *[f"{status} 5 {run} {run} 7000 600000 0"] * 8,
+            f"{status} 4 {run} 0 7000 600000 0",
+            f"{status} 5 {run} {run} -7000 600000 0",
+        ]
+
+    def declared(*levels):
+        marks = ["5 0 0 7000 600000"] * 8 + ["4 0 0 7000 600000", "5 0 0 -7000 600000"]
+        return [f"4 {mark} {level}" for mark, level in zip(marks, levels, strict=True)]
+
+    def refused_as_sent():
+        """20 does not apply, and no status is looked at: 10, then 11."""
+        yield refused("declare", 10, *[declare(point, level) for point in beyond for level in (*outside, *below, *inside)])
+        yield refused("declare", 11, *[declare(point, level) for point in (*floored, *signed) for level in outside])
+        yield refused("declare", 11, *[declare(point, level) for point in floored for level in below])
+
+    def refused_for_status():
+        """The same, then 22: 0 is not below 0."""
+        yield from refused_as_sent()
+        yield refused("declare", 22, *[declare(point, level) for point in floored for level in inside])
+        yield refused("declare", 22, *[declare(point, level) for point in signed for level in (*inside, *below)])
+
+    def looked(status, run):
+        return looks(*[f"{status} {run} {run} 0"] * 8, f"{status} {run} 0 0", f"{status} {run} {run} 0")
+
+    def declarations(of_floored, of_signed):
+        points = [(point, of_floored) for point in floored] + [(point, of_signed) for point in signed]
+        return [(declare(point, level), "declare accepted") for point, level in points]
+
+    return [
+        # 20 goes before all.
+        refused("declare", 20, *[declare(point, level) for point in (1, 3, 9, *beyond) for level in (*outside, *below, *inside)]),
+        (load(register(LENGTHS, units, [1, 8])), "load accepted 4"),
+        # Status 0 before any interval, at status 0 after a BLANK, and at status 1. Nothing changes.
+        *refused_for_status(),
+        at(1, AUTOMATIC, ["0 1 0 0 0 0 0"] * 10),
+        *refused_for_status(),
+        *looked(0, 0),
+        at(2, AUTOMATIC, undeclared(1, 1)),
+        *refused_for_status(),
+        *looked(1, 1),
+        at(3, AUTOMATIC, undeclared(2, 2)),
+        # Status 2: what is not refused with 11 is accepted, here 0 and -1.
+        *refused_as_sent(),
+        *looked(2, 2),
+        *declarations(0, -1),
+        *standing(0, 0, -1, 0, 0, -1, 0, 0, -1, -1),
+        # Status 4.
+        *refused_for_status(),
+        *standing(0, 0, -1, 0, 0, -1, 0, 0, -1, -1),
+        at(4, AUTOMATIC, declared(0, 0, -1, 0, 0, -1, 0, 0, -1, -1)),
+        *standing(0, 0, -1, 0, 0, -1, 0, 0, -1, -1),
+        *reinstated(*range(1, 11)),
+        # Status 0 after a reinstatement.
+        *refused_for_status(),
+        *looked(0, 0),
+        at(5, AUTOMATIC, undeclared(1, 1)),
+        at(6, AUTOMATIC, undeclared(2, 2)),
+        at(7, AUTOMATIC, undeclared(3, 3)),
+        # Status 3: the highest level.
+        *refused_as_sent(),
+        *looked(3, 3),
+        *declarations(128_000_000, 128_000_000),
+        *standing(*[128_000_000] * 10),
+        *refused_for_status(),
+        at(8, AUTOMATIC, declared(*[128_000_000] * 10)),
+        *reinstated(*range(1, 11)),
+        # Manual mode. The lowest level; 1.
+        at(9, MANUAL, undeclared(1, 1)),
+        at(10, MANUAL, undeclared(2, 2)),
+        *refused_as_sent(),
+        *declarations(1, -128_000_000),
+        *standing(1, 1, -128_000_000, 1, 1, -128_000_000, 1, 1, -128_000_000, -128_000_000),
+        at(11, MANUAL, declared(1, 1, -128_000_000, 1, 1, -128_000_000, 1, 1, -128_000_000, -128_000_000)),
+        *refused_for_status(),
+        *reinstated(*range(1, 11)),
+        # 0 for bidirectional units and aggregates. The others are refused and their runs go on: at 4 they are declared at their MW.
+        at(12, AUTOMATIC, undeclared(1, 1)),
+        at(13, AUTOMATIC, undeclared(2, 2)),
+        *[(declare(point, 0), "declare accepted") for point in signed],
+        refused("declare", 11, *[declare(point, -1) for point in floored]),
+        *looks("2 2 2 0", "2 2 2 0", "4 0 0 0", "2 2 2 0", "2 2 2 0", "4 0 0 0", "2 2 2 0", "2 2 2 0", "4 0 0 0", "4 0 0 0"),
+        at(14, AUTOMATIC, [
+            "3 5 3 3 7000 600000 0", "3 5 3 3 7000 600000 0", "4 5 0 0 7000 600000 0", "3 5 3 3 7000 600000 0",
+            "3 5 3 3 7000 600000 0", "4 5 0 0 7000 600000 0", "3 5 3 3 7000 600000 0", "3 5 3 3 7000 600000 0",
+            "4 4 0 0 7000 600000 0", "4 5 0 0 -7000 600000 0"]),
+        refused("declare", 11, *[declare(point, -128_000_000) for point in floored]),
+        at(15, AUTOMATIC, declared(107_000, 107_000, 0, 107_000, 107_000, 0, 107_000, 107_000, 0, 0)),
+        *standing(107_000, 107_000, 0, 107_000, 107_000, 0, 107_000, 107_000, 0, 0),
+    ]
+
+
+def levels_load_again():
+    """What a point is goes by the register loaded last: point 1 is of each kind in turn, and point 2 an aggregate or a unit."""
+    def status_2(lines, errors):
+        """Nothing kept, then two LARGE marks. A load starts afresh, so the numbers may be the same each time."""
+        return [
+            accepted(interval(1, AUTOMATIC, *lines), *numbered(1, rows("0 1 0 0", [0] * len(errors), trigger=0))),
+            accepted(interval(2, AUTOMATIC, *lines), *numbered(2, rows("1 5 1 1", errors))),
+            accepted(interval(3, AUTOMATIC, *lines), *numbered(3, rows("2 5 2 2", errors))),
+        ]
+
+    def declared(sent, error, level):
+        """Two more."""
+        return [
+            accepted(interval(4, AUTOMATIC, sent), f"4 1 3 5 3 3 {error} 600000 0"),
+            accepted(interval(5, AUTOMATIC, sent), f"5 1 4 5 0 0 {error} 600000 {level}"),
+            (look(1), f"look accepted 4 0 0 {level}"),
+        ]
+
+    battery = register(LENGTHS, [(BIDIRECTIONAL, 0)])
+    charging = plain(-0.3, mwb=-100_000)
+    return [
+        # A generating unit: -(100,000 - (-300)).
+        (load(ONE_UNIT), "load accepted 0"),
+        *status_2([plain(-0.3)], [-100_300]),
+        refused("declare", 11, declare(1, -1)),
+        # A refused load, here a bidirectional unit with a spare, changes no kind.
+        refused("load", 4, load(battery[:-1] + b"\1")),
+        refused("declare", 11, declare(1, -1)),
+        (look(1), "look accepted 2 2 2 0"),
+        *declared(plain(-0.3), -100_300, 0),
+        # A bidirectional unit: -300 - (-100,000).
+        (load(battery), "load accepted 0"),
+        *status_2([charging], [99_700]),
+        *declared(charging, 99_700, -300),
+        (load(battery), "load accepted 0"),
+        *status_2([charging], [99_700]),
+        (declare(1, -1), "declare accepted"),
+        (look(1), "look accepted 4 0 0 -1"),
+        # A load: -(100,000 - (-300)).
+        (load(register(LENGTHS, [(LOAD, 0)])), "load accepted 0"),
+        *status_2([plain(-0.3)], [-100_300]),
+        refused("declare", 11, declare(1, -1)),
+        *declared(plain(-0.3), -100_300, 0),
+        # A semi-scheduled unit: 107,000 - 100,000.
+        (load(register(LENGTHS, [(SEMI_SCHEDULED, 0)])), "load accepted 0"),
+        *status_2([plain(107.0, cap=1)], [7_000]),
+        refused("declare", 11, declare(1, -1)),
+        *declared(plain(107.0, cap=1), 7_000, 107_000),
+        # Point 2 is an aggregate, of a generating unit.
+        (load(register(LENGTHS, [(GENERATING, 0)], [1])), "load accepted 1"),
+        *status_2([plain(-0.3, mode=2)], [-100_300, -100_300]),
+        refused("declare", 11, declare(1, -1)),
+        (declare(2, -1), "declare accepted"),
+        (look(2), "look accepted 4 0 0 -1"),
+        # Point 2 is a generating unit.
+        (load(TWO_UNITS), "load accepted 0"),
+        *status_2([plain(-0.3), plain(-0.3)], [-100_300, -100_300]),
+        refused("declare", 11, declare(1, -1), declare(2, -1)),
+        (declare(2, 0), "declare accepted"),
+        (look(2), "look accepted 4 0 0 0"),
+        # Point 1 is a load, point 2 a bidirectional unit.
+        (load(register(LENGTHS, [(LOAD, 0), (BIDIRECTIONAL, 0)])), "load accepted 0"),
+        *status_2([plain(-0.3), charging], [-100_300, 99_700]),
+        refused("declare", 11, declare(1, -1)),
+        (declare(2, -1), "declare accepted"),
+        (look(1), "look accepted 2 2 2 0"),
+        (look(2), "look accepted 4 0 0 -1"),
+    ]
+
+
+def levels_plant():
+    """64 units and 16 aggregates. Units 1 to 45 in chains of three, with a generating unit, a load and a bidirectional unit as head
+    in turn: points 65 to 79. Generating unit 46 is point 80. 47 to 64 are units of kinds 1 to 4 in turn, in no chain.
+
+    MW is -300 kW, but 107,000 for kind 4. Targets are 100,000, and -100,000 for kind 3. Errors: -(100,000 - (-300)) for kinds 1 and
+    2, -300 - (-100,000) for kind 3, 107,000 - 100,000 for kind 4. A chain of three: -300 + 300 - 300 = -300 against 100,000 -
+    100,000 - 100,000, with the triggers of `levels_in_chains`; unit 46's: -300 against 100,000. All are LARGE.
+    """
+    three, four = (GENERATING, LOAD, BIDIRECTIONAL), (GENERATING, LOAD, BIDIRECTIONAL, SEMI_SCHEDULED)
+    kinds = [three[unit % 3] for unit in range(46)] + [four[unit % 4] for unit in range(18)]
+    following, heads = [0] * 64, []
+    for chain in range(15):
+        first, second, last = (3 * chain + 1 + (chain + place) % 3 for place in range(3))
+        following[first - 1], following[second - 1] = second, last
+        heads.append(first)
+    heads.append(46)
+
+    def sent(unit, kind):
+        mode = 2 if unit <= 46 else 0
+        if kind == SEMI_SCHEDULED:
+            return plain(107.0, cap=1)
+        return plain(-0.3, mwb=-100_000 if kind == BIDIRECTIONAL else 100_000, mode=mode)
+
+    lines = [sent(unit, kind) for unit, kind in enumerate(kinds, 1)]
+
+    def at(number, texts):
+        return accepted(interval(number, AUTOMATIC, *lines), *numbered(number, texts))
+
+    error_of = {GENERATING: -100_300, LOAD: -100_300, BIDIRECTIONAL: 99_700, SEMI_SCHEDULED: 7_000}
+    level_of = {GENERATING: 0, LOAD: 0, BIDIRECTIONAL: -300, SEMI_SCHEDULED: 107_000}
+    errors = [error_of[kind] for kind in kinds] + [99_700] * 15 + [-100_300]
+    reached = [level_of[kind] for kind in kinds] + [-300] * 16
+    signed = [kind == BIDIRECTIONAL for kind in kinds] + [True] * 16
+    return [
+        (load(register(LENGTHS, list(zip(kinds, following)), heads)), "load accepted 46"),
+        at(1, ["0 1 0 0 0 0 0"] * 80),
+        at(2, rows("1 5 1 1", errors)),
+        at(3, rows("2 5 2 2", errors)),
+        at(4, rows("3 5 3 3", errors)),
+        at(5, rows("4 5 0 0", errors, reached)),
+        *standing(*reached),
+        *reinstated(*range(1, 81)),
+        at(6, rows("1 5 1 1", errors)),
+        at(7, rows("2 5 2 2", errors)),
+        # -1 for every point, and for the one past the last.
+        *[(declare(point, -1), "declare accepted" if may else "declare refused 11") for point, may in enumerate(signed, 1)],
+        refused("declare", 10, declare(81, -1)),
+        *looks(*["4 0 0 -1" if may else "2 2 2 0" for may in signed]),
+        at(8, [f"4 5 0 0 {error} 600000 -1" if may else f"3 5 3 3 {error} 600000 0" for error, may in zip(errors, signed)]),
+    ]
+
+
 # ---- two lists that are alike for one group
 
 
@@ -783,9 +1244,11 @@ def alike(others, suns, between):
         "3 2 0 0 0 0 0 0 0",  # conformance mode 1: OFF
         "3 5 2 4 2 0 6500 600000 0",  # not all modes 0: 68,000 - 61,500, SMALL
     )
+    named(declare(1, -90_000), "declare refused 11")
     named(declare(1, 90_000), "declare accepted")
     named(look(1), "look accepted 4 0 0 90000")
     named(look(5), "look accepted 2 2 0 0")
+    named(declare(2, -1), "declare refused 11")
     named(declare(2, 0), "declare refused 22")
     # Refused in both lists: the number of the last accepted, then a report one record short.
     for number, report, refusal in ((3, 80, 21), (4, 64, 8)):
@@ -838,8 +1301,9 @@ def alike_1():
             [(look(3), "look accepted 0 0 0 0"), (look(0), "look refused 10")],
             [(declare(3, 0), "declare refused 22"), (declare(6, 0), "declare refused 10")],
             [
-                (declare(3, -5), "declare accepted"),
-                (look(3), "look accepted 4 0 0 -5"),
+                (declare(3, -5), "declare refused 11"),
+                (declare(3, 5), "declare accepted"),
+                (look(3), "look accepted 4 0 0 5"),
                 (reinstate(3), "reinstate accepted"),
                 (declare(4, 50_000), "declare accepted"),
             ],
@@ -875,7 +1339,7 @@ def alike_2():
         ),
         [
             [],
-            [(reinstate(3), "reinstate refused 23"), (declare(4, 1), "declare refused 22")],
+            [(reinstate(3), "reinstate refused 23"), (declare(4, 1), "declare refused 22"), (declare(4, -1), "declare refused 11")],
             [(reinstate(2**32 - 1), "reinstate refused 10"), (declare(3, 128_000_001), "declare refused 11")],
             [(look(3), "look accepted 0 0 0 0"), (look(4), "look accepted 0 0 0 0")],
             [(reinstate(4), "reinstate refused 23")],
@@ -916,6 +1380,7 @@ def alike_solar(others, between):
     at(2, sun(109.0, 1), "1 4 1 0 8000 600000 0")  # 109,000 - 101,000: SMALL
     at(3, sun(112.0, 0), "2 5 2 1 11000 600000 0")  # LARGE
     named(look(2), "look accepted 2 2 1 0")
+    named(declare(2, -90_000), "declare refused 11")
     named(declare(2, 90_000), "declare accepted")
     named(look(2), "look accepted 4 0 0 90000")
     named(declare(2, 0), "declare refused 22")
@@ -989,7 +1454,115 @@ def alike_solar_2():
             2: [(reinstate(4), "reinstate refused 23")],
             5: [(look(4), "look accepted 4 0 0 93000"), (declare(4, 0), "declare refused 22")],
             9: [(reinstate(4), "reinstate accepted"), (reinstate(5), "reinstate refused 23")],
-            12: [(declare(4, 0), "declare accepted"), (look(4), "look accepted 4 0 0 0")],
+            12: [(declare(4, -1), "declare refused 11"), (declare(4, 0), "declare accepted"), (look(4), "look accepted 4 0 0 0")],
+        },
+    )
+
+
+def alike_levels(others, between):
+    """Chain 1 -> 3 -> 5 (generating unit, load, bidirectional unit) with its aggregate, point 7, is the group. Outside of it:
+    generating unit 2 in no chain, and chain 4 -> 6 (load, bidirectional unit) with its aggregate, point 8.
+
+    others: for each interval the lines of units 2, 4 and 6, and what is printed of points 2, 4, 6 and 8; between: operator calls
+    outside the group after the interval of that number. Gives the steps as `alike` does.
+    """
+    units = [(GENERATING, 3), (GENERATING, 0), (LOAD, 5), (LOAD, 6), (BIDIRECTIONAL, 0), (BIDIRECTIONAL, 0)]
+    steps = [(True, load(register(LENGTHS, units, [1, 4])), "load accepted 5")]
+
+    # -300 kW each. Units 1 and 3: -(100,000 - (-300)); unit 5: -300 - (-100,000). The aggregate: -300 + 300 - 300 = -300 against
+    # 100,000 - 100,000 - 100,000, with the triggers of `levels_in_chains`. All are LARGE.
+    one = three = plain(-0.3, mode=2)
+    five = plain(-0.3, mwb=-100_000, mode=2)
+
+    def at(number, *ours):
+        (two, four, six), theirs = others[number - 1]
+        steps.append((True, given(interval(number, AUTOMATIC, one, two, three, four, five, six), 128), "interval accepted"))
+        texts = [text for pair in zip(ours, theirs, strict=True) for text in pair]
+        steps.extend((point % 2 == 1, b"", f"{number} {point} {text}") for point, text in enumerate(texts, 1))
+        steps.extend((False, *step) for step in between.get(number, []))
+
+    def named(sent, text):
+        steps.append((True, sent, text))
+
+    low, high = "-100300 600000", "99700 600000"
+    at(1, *["0 1 0 0 0 0 0"] * 4)  # nothing kept
+    named(declare(1, -300), "declare refused 11")
+    named(declare(5, -300), "declare refused 22")
+    at(2, f"1 5 1 1 {low} 0", f"1 5 1 1 {low} 0", f"1 5 1 1 {high} 0", f"1 5 1 1 {high} 0")
+    at(3, f"2 5 2 2 {low} 0", f"2 5 2 2 {low} 0", f"2 5 2 2 {high} 0", f"2 5 2 2 {high} 0")
+    named(declare(1, -300), "declare refused 11")
+    named(declare(3, -1), "declare refused 11")
+    named(declare(5, -2), "declare accepted")
+    named(look(1), "look accepted 2 2 2 0")
+    named(look(5), "look accepted 4 0 0 -2")
+    named(look(7), "look accepted 2 2 2 0")
+    at(4, f"3 5 3 3 {low} 0", f"3 5 3 3 {low} 0", f"4 5 0 0 {high} -2", f"3 5 3 3 {high} 0")
+    # Run 4: declared, the members at 0 and the aggregate at -300.
+    at(5, f"4 5 0 0 {low} 0", f"4 5 0 0 {low} 0", f"4 5 0 0 {high} -2", f"4 5 0 0 {high} -300")
+    named(look(1), "look accepted 4 0 0 0")
+    named(look(7), "look accepted 4 0 0 -300")
+    named(reinstate(1), "reinstate accepted")
+    named(reinstate(7), "reinstate accepted")
+    at(6, f"1 5 1 1 {low} 0", f"4 5 0 0 {low} 0", f"4 5 0 0 {high} -2", f"1 5 1 1 {high} 0")
+    at(7, f"2 5 2 2 {low} 0", f"4 5 0 0 {low} 0", f"4 5 0 0 {high} -2", f"2 5 2 2 {high} 0")
+    named(declare(7, -1), "declare accepted")
+    named(declare(1, -1), "declare refused 11")
+    named(declare(1, 0), "declare accepted")
+    named(look(7), "look accepted 4 0 0 -1")
+    at(8, f"4 5 0 0 {low} 0", f"4 5 0 0 {low} 0", f"4 5 0 0 {high} -2", f"4 5 0 0 {high} -1")
+    return steps
+
+
+def alike_levels_1():
+    """The others trip too, and are declared at 0 and below, by their marks and by the operator."""
+    # Unit 2: -(100,000 - (-300)). Load 4: -(40,000 - (-250)). Unit 6: -750 - (-60,000). Their aggregate: 250 - 750 = -500 against
+    # -40,000 - 60,000, with MWO 100,000 and ROC 3,000 on either side: `plain`'s triggers. All are LARGE.
+    lines = plain(-0.3), plain(-0.25, mwb=40_000, mode=2), plain(-0.75, mwb=-60_000, mode=2)
+    two, four, six, eight = "-100300 600000", "-40250 600000", "59250 600000", "99500 600000"
+    printed = [
+        ["0 1 0 0 0 0 0"] * 4,
+        [f"1 5 1 1 {two} 0", f"1 5 1 1 {four} 0", f"1 5 1 1 {six} 0", f"1 5 1 1 {eight} 0"],
+        [f"2 5 2 2 {two} 0", f"2 5 2 2 {four} 0", f"2 5 2 2 {six} 0", f"2 5 2 2 {eight} 0"],
+        [f"3 5 3 3 {two} 0", f"4 5 0 0 {four} 0", f"3 5 3 3 {six} 0", f"4 5 0 0 {eight} -128000000"],  # 4 and 8 declared after 3
+        [f"4 5 0 0 {two} 0", f"4 5 0 0 {four} 0", f"4 5 0 0 {six} -750", f"4 5 0 0 {eight} -128000000"],  # run 4
+        [f"4 5 0 0 {two} 0", f"4 5 0 0 {four} 0", f"4 5 0 0 {six} -750", f"4 5 0 0 {eight} -128000000"],
+        [f"1 5 1 1 {two} 0", f"4 5 0 0 {four} 0", f"4 5 0 0 {six} -750", f"1 5 1 1 {eight} 0"],  # 2 and 8 reinstated after 6
+        [f"2 5 2 2 {two} 0", f"4 5 0 0 {four} 0", f"4 5 0 0 {six} -750", f"2 5 2 2 {eight} 0"],
+    ]
+    return alike_levels(
+        [(lines, texts) for texts in printed],
+        {
+            2: [(declare(2, -300), "declare refused 11"), (declare(8, -500), "declare refused 22")],
+            3: [
+                (declare(2, -300), "declare refused 11"),
+                (declare(4, -1), "declare refused 11"),
+                (declare(4, 0), "declare accepted"),
+                (declare(8, -128_000_000), "declare accepted"),
+                (look(8), "look accepted 4 0 0 -128000000"),
+            ],
+            5: [(look(2), "look accepted 4 0 0 0"), (declare(2, -1), "declare refused 11"), (look(6), "look accepted 4 0 0 -750")],
+            6: [(reinstate(2), "reinstate accepted"), (reinstate(8), "reinstate accepted")],
+            8: [(declare(2, 0), "declare accepted"), (declare(8, -1), "declare accepted"), (look(8), "look accepted 4 0 0 -1")],
+        },
+    )
+
+
+def alike_levels_2():
+    """Unit 2 is substituted and far below 0, unit 4 cannot be read, unit 6 is on target; other operator calls."""
+    # Unit 2: -(100,000 - (-2,000,000)), DOUBT. Quality 3 is unreadable: BLANK for unit 4 and for its aggregate.
+    lines = plain(-2000.0, quality=SUBSTITUTED), plain(-0.3, mode=2, quality=3), plain(30.0, mwb=30_000, mode=2)
+    none, later = "0 1 0 0 0 0 0", ("0 3 0 0 -2100000 600000 0", "0 1 0 0 0 0 0", "0 2 0 0 0 600000 0", "0 1 0 0 0 0 0")
+    return alike_levels(
+        [(lines, (none, none, none, none)), *[(lines, later)] * 7],
+        {
+            1: [(declare(2, -1), "declare refused 11"), (declare(2, 0), "declare refused 22")],
+            3: [
+                (declare(6, -1), "declare refused 22"),
+                (declare(8, -1), "declare refused 22"),
+                (declare(0, -1), "declare refused 10"),
+            ],
+            4: [(declare(8, -128_000_001), "declare refused 11"), (declare(9, -1), "declare refused 10")],
+            6: [(look(2), "look accepted 0 0 0 0"), (look(8), "look accepted 0 0 0 0")],
         },
     )
 
@@ -1052,8 +1625,9 @@ SCRIPT_ERRORS = {
 }
 
 LISTS = [every_status, operator_declaration, refusals_without_register, refusals_with_register, backlog, load_again, jump,
-         last_number, full_plant, limits, solar, solar_plant]
-ALIKE = [(alike_1, alike_2), (alike_solar_1, alike_solar_2)]
+         last_number, full_plant, limits, solar, solar_plant, levels, levels_in_chains, levels_of_one, operator_levels,
+         levels_load_again, levels_plant]
+ALIKE = [(alike_1, alike_2), (alike_solar_1, alike_solar_2), (alike_levels_1, alike_levels_2)]
 # What `rt ci` runs the program on.
 CRATE_LIST = "every_status"
 

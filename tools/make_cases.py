@@ -5,9 +5,9 @@
     make_cases.py --check          compares the folders with what this script makes
     make_cases.py --check PROGRAM  and runs `PROGRAM FOLDER` on each, comparing its output with `expected`
 
-Every expected line is worked out by hand from the paper; nothing here computes a mark. A printed line is
-interval, point, status, mark (0 OFF, 1 BLANK, 2 CLEAR, 3 DOUBT, 4 SMALL, 5 LARGE), small run, large run, error,
-small trigger, level.
+Every expected line is worked out by hand from the papers, 01 and of 02 the changes 2026-01 (kind 4) and 2026-02
+(levels); nothing here computes a mark or a level. A printed line is interval, point, status, mark (0 OFF, 1 BLANK,
+2 CLEAR, 3 DOUBT, 4 SMALL, 5 LARGE), small run, large run, error, small trigger, level.
 """
 
 import pathlib
@@ -371,6 +371,89 @@ def solar_alone():
     )
 
 
+def tripped():
+    """A gas unit trips with its auxiliaries running and is declared at 0, not at -300 (02, 2026-02).
+
+    Point 1 is the gas unit and 2 a battery, both in no chain; chain 3 -> 4 (pumped load, hydro unit) is point 6; 5 is a solar
+    farm in no chain, under its cap throughout. All own triggers are as `wide` says. The aggregate: target -40,000 + 30,000 =
+    -10,000, MWO max(200,000, 200,000), ROC max(9,000, 9,000), so its triggers are 600,000 and 1,000,000 too.
+    """
+    none, on = "0 1 0 0 0 0 0", "0 2 0 0 0 600000 0"
+    # MW of units 1 to 5; what is printed of points 1 to 6.
+    steps = [
+        # Nothing kept; then all on target.
+        (100.0, -50.0, 40.0, 30.0, 60.0, none, none, none, none, none, none),
+        (100.0, -50.0, 40.0, 30.0, 60.0, on, on, on, on, on, on),
+        # The gas unit runs down: -(100,000 - 12,000). The solar farm draws 100: -(60,000 - (-100)), too low and so CLEAR.
+        (12.0, -50.0, 40.0, 30.0, -0.1, "1 5 1 1 -88000 600000 0", on, on, on, "0 2 0 0 -60100 600000 0", on),
+        # The gas unit draws 300: -(100,000 - (-300)). The battery: -43,000 - (-50,000), SMALL. The pump reads -200, -(40,000 -
+        # (-200)), and the hydro unit draws 500, -(30,000 - (-500)): both LARGE. The aggregate: 200 - 500 = -300, and -300 -
+        # (-10,000) is SMALL.
+        (-0.3, -43.0, -0.2, -0.5, 60.0, "2 5 2 2 -100300 600000 0", "1 4 1 0 7000 600000 0", "1 5 1 1 -40200 600000 0",
+         "1 5 1 1 -30500 600000 0", on, "1 4 1 0 9700 600000 0"),
+        # The battery: -43,500 - (-50,000). The solar farm: 70,000 - 60,000 = 10,000, at the large trigger: SMALL.
+        (-0.3, -43.5, -0.2, -0.5, 70.0, "3 5 3 3 -100300 600000 0", "2 4 2 0 6500 600000 0", "2 5 2 2 -40200 600000 0",
+         "2 5 2 2 -30500 600000 0", "1 4 1 0 10000 600000 0", "2 4 2 0 9700 600000 0"),
+        # The gas unit's run is 4: declared, at 0. The battery: -42,000 - (-50,000). The solar farm: 72,000 - 60,000, LARGE.
+        (-0.3, -42.0, -0.2, -0.5, 72.0, "4 5 0 0 -100300 600000 0", "3 4 3 0 8000 600000 0", "3 5 3 3 -40200 600000 0",
+         "3 5 3 3 -30500 600000 0", "2 5 2 1 12000 600000 0", "3 4 3 0 9700 600000 0"),
+        # Points 2, 3, 4 and 6 are declared: the battery at -42,500, pump and hydro unit at 0, their aggregate at 200 - 500 =
+        # -300; floors on its members would give 0.
+        (-0.25, -42.5, -0.2, -0.5, 72.0, "4 5 0 0 -100250 600000 0", "4 4 0 0 7500 600000 -42500", "4 5 0 0 -40200 600000 0",
+         "4 5 0 0 -30500 600000 0", "3 5 3 2 12000 600000 0", "4 4 0 0 9700 600000 -300"),
+        # All on target but the solar farm, whose small run is 4: declared at 70,000. The levels stand.
+        (100.0, -50.0, 40.0, 30.0, 70.0, "4 2 0 0 0 600000 0", "4 2 0 0 0 600000 -42500", "4 2 0 0 0 600000 0",
+         "4 2 0 0 0 600000 0", "4 4 0 0 10000 600000 70000", "4 2 0 0 0 600000 -300"),
+        # Other MW: -(100,000 - 50,000); -300 - (-50,000); 50,000 - 40,000; on target; -(60,000 - (-100)). The aggregate:
+        # -50,000 + 30,000 = -20,000, so -((-10,000) - (-20,000)). The levels stand.
+        (50.0, -0.3, 50.0, 30.0, -0.1, "4 5 0 0 -50000 600000 0", "4 5 0 0 49700 600000 -42500", "4 4 0 0 10000 600000 0",
+         "4 2 0 0 0 600000 0", "4 2 0 0 -60100 600000 70000", "4 4 0 0 -10000 600000 -300"),
+    ]
+
+    def lines(gas, battery, pump, hydro, sun):
+        return (wide(gas), wide(battery, mwb=-50_000), wide(pump, mwb=40_000, mode=2), wide(hydro, mwb=30_000, mode=2),
+                wide(sun, mwb=60_000, cap=1))
+
+    return (
+        register(LENGTHS, [(GENERATING, 0), (BIDIRECTIONAL, 0), (LOAD, 4), (GENERATING, 0), (SEMI_SCHEDULED, 0)], [3]),
+        [interval(number, AUTOMATIC, *lines(*step[:5])) for number, step in enumerate(steps, 1)],
+        [f"{number} {point} {text}" for number, step in enumerate(steps, 1) for point, text in enumerate(step[5:], 1)],
+    )
+
+
+def levels():
+    """MW about zero and at its least, against 100,000 each; chain 9 -> 10 (generating units) is point 11.
+
+    Triggers are as `plain` says. The aggregate: -300 + 500 = 200 against 200,000, with MWO 200,000 and ROC 6,000, so 600,000
+    and 1,000,000. All are LARGE.
+    """
+    # kind, MW, error and level of units 1 to 8 in no chain and of 9 and 10 in the chain
+    units = [
+        (GENERATING, -0.0006, -100_001, 0),  # -0.6 kW is -1
+        (LOAD, -0.0625, -100_063, 0),  # -62.5 kW is -63
+        (BIDIRECTIONAL, -0.0625, -100_063, -63),
+        (BIDIRECTIONAL, -0.0004, -100_000, 0),  # -0.4 kW is 0
+        (GENERATING, 0.001, -99_999, 1),
+        (LOAD, 0.0, -100_000, 0),
+        (GENERATING, -2000.0, -2_100_000, 0),
+        (BIDIRECTIONAL, -2000.0, -2_100_000, -2_000_000),
+        (GENERATING, -0.3, -100_300, 0),
+        (GENERATING, 0.5, -99_500, 500),
+    ]
+    ends = [(error, level) for _, _, error, level in units] + [(-199_800, 200)]
+    lines = [plain(mw, mode=2 if unit > 8 else 0) for unit, (_, mw, _, _) in enumerate(units, 1)]
+    heads = {2: "1 5 1 1", 3: "2 5 2 2", 4: "3 5 3 3", 5: "4 5 0 0", 6: "4 5 0 0"}
+    printed = [f"1 {point} 0 1 0 0 0 0 0" for point in range(1, 12)]  # nothing kept
+    for number, head in heads.items():  # run 4 at interval 5: declared; and the levels stand
+        printed += [f"{number} {point} {head} {error} 600000 {level if number >= 5 else 0}"
+                    for point, (error, level) in enumerate(ends, 1)]
+    return (
+        register(LENGTHS, [(kind, 10 if unit == 9 else 0) for unit, (kind, *_) in enumerate(units, 1)], [9]),
+        [interval(number, AUTOMATIC, *lines) for number in range(1, 7)],
+        printed,
+    )
+
+
 def refused_8_short_last():
     """The last buffer is 47 bytes."""
     return ONE_UNIT, EXAMPLE_BUFFERS[:2] + [EXAMPLE_BUFFERS[2][:47]], EXAMPLE_LINES[:2] + ["refused 8"]
@@ -451,6 +534,8 @@ CASES = {
     "floats": floats,
     "solar": solar,
     "solar_alone": solar_alone,
+    "tripped": tripped,
+    "levels": levels,
     "refused_8_short_last": refused_8_short_last,
     "refused_8_at_once": refused_8_at_once,
     "refused_9": refused_9,

@@ -4,10 +4,16 @@
   tools/trial_marks.py           write both files
   tools/trial_marks.py --check   write nothing; exit 1 where a file differs from what would be written
 
-Each case is a unit or an aggregate at one interval. Its answer (mark, error, small trigger, power) is stated
-here by hand from 01, "Triggers and errors" and "Marks and runs", and for kind 4 from 02, 2026-01, with the
-arithmetic beside it; only a power is written as the sum of what was put in. The monitor's code is never run.
-Powers and rates are in kW, triggers in hundredths of a kW.
+Each case is a unit or an aggregate at one interval. Its answer (mark, error, small trigger, level) is stated
+here by hand from 01, "Triggers and errors" and "Marks and runs", for kind 4 from 02, 2026-01, and for levels from
+02, 2026-02, with the arithmetic beside it; only a level that is a sum of what was put in may be written as that sum.
+The monitor's code is never run. Powers, levels and rates are in kW, triggers in hundredths of a kW.
+
+The level is the one at which the point would be declared by this mark: for kinds 1, 2 and 4 the greater of MW and
+0, for kind 3 MW, for an aggregate the sum of its members' MW as sent, loads subtracted. It is 0 for OFF and BLANK.
+
+The program reads its standard input in blocks of 65,536 bytes, at most BLOCKS of them. No case straddles two: where
+the next case does not fit into a block, zeros fill that block, and the case begins the next one.
 """
 import pathlib
 import struct
@@ -16,6 +22,7 @@ import sys
 from lines import READINGS, nearest_kw, packed, write_or_check
 
 CRATE = pathlib.Path(__file__).resolve().parent.parent / "crates" / "trial_marks"
+BLOCKS = 4
 GENERATING, LOAD, BIDIRECTIONAL = KINDS = (1, 2, 3)
 SEMI_SCHEDULED = 4  # stands in no chain
 WORDS = {1: "generating unit", 2: "load", 3: "bidirectional unit", 4: "semi-scheduled unit"}
@@ -249,10 +256,10 @@ def edges():
     below = {"target": 0, "MW": -12000, **APART}
     unit("bidirectional unit down through zero", "SMALL -16000 1000000 -12000", below, {**kept, "target": 5000}, BIDIRECTIONAL)
     unit("bidirectional unit up to zero", "SMALL 13000 1000000 -12000", below, {**kept, "target": -28000}, BIDIRECTIONAL)
-    # a station's own use: (0 - 0) - (-6,001) = 6,001
+    # a station's own use: (0 - 0) - (-6,001) = 6,001; the level is 0
     for kind in (GENERATING, LOAD):
         own_use = {"target": 0, "MW": -6001}
-        unit(f"{WORDS[kind]} with MW below zero", "LARGE -6001 600000 -6001", own_use, {"target": 0}, kind)
+        unit(f"{WORDS[kind]} with MW below zero", "LARGE -6001 600000 0", own_use, {"target": 0}, kind)
 
 
 # As RAISE_UP, but with a kept cap flag of 1, so that an error below the target is CLEAR.
@@ -328,10 +335,11 @@ def cap_flags():
         was = f"quality was {quality['quality']}"
         solar(f"cap 0: {was}", "OFF", now(323001, 0), {**kept_0, **quality})
         solar(f"cap 1: {was}", "LARGE 20001 1000000 323001", now(323001, 1), {**kept_1, **quality})
-    # (0 - 0) - (-6,001) = 6,001; (2,000,000 - 0) - (-2,000,000); 2,000,000 - (0 + 0), as a kept target is not below zero
+    # (0 - 0) - (-6,001) = 6,001; (2,000,000 - 0) - (-2,000,000); 2,000,000 - (0 + 0), as a kept target is not below zero.
+    # The level is 0 where MW is below zero.
     fast = {"availability": 2000000, **rates(2000000, 2000000)}
-    solar("cap 1: own use", "CLEAR -6001 600000 -6001", {"MW": -6001}, {"target": 0, **CAPPED})
-    solar("cap 1: the least error", "CLEAR -4000000 6000000 -2000000", {"MW": -2000000, **fast}, {"target": 2000000, **CAPPED})
+    solar("cap 1: own use", "CLEAR -6001 600000 0", {"MW": -6001}, {"target": 0, **CAPPED})
+    solar("cap 1: the least error", "CLEAR -4000000 6000000 0", {"MW": -2000000, **fast}, {"target": 2000000, **CAPPED})
     solar("cap 1: the greatest error", "LARGE 2000000 6000000 2000000", {"MW": 2000000, **fast}, {"target": 0, **CAPPED})
 
 
@@ -371,8 +379,8 @@ def triggers():
     # 3 x 2,000,000 = 6,000,000 and 5 x 2,000,000 = 10,000,000
     for mw, mark in ((160000, "CLEAR 60000"), (160001, "SMALL 60001"), (200000, "SMALL 100000"), (200001, "LARGE 100001")):
         unit(f"the greatest triggers, MW {mw}", f"{mark} 6000000 {mw}", {"MW": mw, **large, **fast}, {})
-    # -((2,000,000 - 0) - (-2,000,000)) and 2,000,000 - (-2,000,000 + 0)
-    unit("the least error", "LARGE -4000000 6000000 -2000000", {"MW": -2000000, **large, **fast}, {"target": 2000000})
+    # -((2,000,000 - 0) - (-2,000,000)), at a level of 0, and 2,000,000 - (-2,000,000 + 0)
+    unit("the least error", "LARGE -4000000 6000000 0", {"MW": -2000000, **large, **fast}, {"target": 2000000})
     lowest = {"target": -2000000}
     unit("the greatest error", "LARGE 4000000 6000000 2000000", {"MW": 2000000, **large, **fast}, lowest, BIDIRECTIONAL)
 
@@ -723,12 +731,219 @@ def largest():
     aggregate("64: the last bad", "BLANK", *members, member(GENERATING, {**bound, **BAD}, {}))
 
 
+# MW around zero, with APART's triggers of 1,000,000 and 2,000,000 and no regulation: its error with a kept MWB of 15,000, which is
+# SMALL, and with one of 25,000, which is LARGE; its level for kinds 1 and 2, and as it was sent.
+AROUND_ZERO = (
+    (-300, -15300, -25300, 0, -300),  # -(15,000 - (-300)) and -(25,000 - (-300))
+    (-1, -15001, -25001, 0, -1),
+    (0, -15000, -25000, 0, 0),
+    (1, -14999, -24999, 1, 1),
+)
+# Bits of MW, what they are in MW, its error with a kept MWB of 15,000, and the levels as above. A float becomes whole kW first.
+NEAR_ZERO = (
+    ("80000000", "-0.0", -15000, 0, 0),
+    ("80000001", "-0.0 and a little", -15000, 0, 0),  # the float next to zero
+    ("B9D1B717", "-0.0004", -15000, 0, 0),  # -0.4 kW
+    ("BA03126E", "just above -0.0005", -15000, 0, 0),  # a float on either side of -0.5 kW
+    ("BA03126F", "just below -0.0005", -15001, 0, -1),
+    ("BA1D4952", "-0.0006", -15001, 0, -1),
+    ("BD800000", "-0.0625", -15063, 0, -63),  # -62.5 kW: halves away from zero
+    ("39D1B717", "0.0004", -15000, 0, 0),
+    ("3A03126F", "just above 0.0005", -14999, 1, 1),
+    ("3D800000", "0.0625", -14937, 63, 63),
+)
+
+
+def levels():
+    """The level of a unit of kind 1 or 2 is never below zero; that of kind 3 is its MW."""
+    small, large = {"target": 15000}, {"target": 25000}
+    for kind in KINDS:
+        signed = kind == BIDIRECTIONAL
+        for chained, head in ((False, {}), (True, {"mode": 2})):
+            where = f"level: {WORDS[kind]}" + (" in a chain" if chained else "")
+
+            def level(words, answer, now, kept):
+                unit(f"{where}, {words}", answer, {**APART, **head, **now}, kept, kind, chained)
+
+            for mw, of_15, of_25, floored, sent in AROUND_ZERO:
+                at = sent if signed else floored
+                level(f"MW {mw}, SMALL", f"SMALL {of_15} 1000000 {at}", {"MW": mw}, small)
+                level(f"MW {mw}, LARGE", f"LARGE {of_25} 1000000 {at}", {"MW": mw}, large)
+            for bits, words, of_15, floored, sent in NEAR_ZERO:
+                level(f"{words} MW", f"SMALL {of_15} 1000000 {sent if signed else floored}", {"MW": bits}, small)
+            # -(15,000 - (-2,000,000)), and with one more; 2,000,000 - 15,000
+            lowest, next_to_it = (-2000000, -1999999) if signed else (0, 0)
+            level("the least MW", f"LARGE -2015000 1000000 {lowest}", {"MW": -2000000}, small)
+            level("next to the least MW", f"LARGE -2014999 1000000 {next_to_it}", {"MW": -1999999}, small)
+            level("the greatest MW", "LARGE 1985000 1000000 2000000", {"MW": 2000000}, small)
+            level("past the least MW", "BLANK", {"MW": "C4FA0001"}, small)
+            # the other marks: kept 0, and then -300 against 15,000
+            at = -300 if signed else 0
+            level("MW -300, CLEAR", f"CLEAR -300 1000000 {at}", {"MW": -300}, {"target": 0})
+            level("MW -300, DOUBT", f"DOUBT -15300 1000000 {at}", {"MW": -300, **SUBSTITUTED}, small)
+            level("MW -300, bad", "BLANK", {"MW": -300, **BAD}, small)
+            level("MW -300, nothing kept", "BLANK", {"MW": -300}, NOTHING)
+            if chained:
+                level("MW -300, mode 1", "OFF", {"MW": -300, "mode": 1}, small)
+    # a gas unit trips with its auxiliaries running: -(100,000 - (-300))
+    unit("level: tripped at -300", "LARGE -100300 600000 0", {"MW": -300}, {})
+    # a bidirectional unit too high below zero: -300 - (-15,000) = 14,700, -300 - (-25,000) = 24,700
+    for chained, head in ((False, {}), (True, {"mode": 2})):
+        where = "in a chain" if chained else "in no chain"
+        for mw, of_15, of_25 in ((-300, 14700, 24700), (-1, 14999, 24999), (0, 15000, 25000), (1, 15001, 25001)):
+            now = {"MW": mw, "target": -15000, **APART, **head}
+            for kept, mark in ((-15000, f"SMALL {of_15}"), (-25000, f"LARGE {of_25}")):
+                label = f"level: too high from {kept}, {where}, MW {mw}"
+                unit(label, f"{mark} 1000000 {mw}", now, {"target": kept}, BIDIRECTIONAL, chained)
+
+
+def solar_levels():
+    """A semi-scheduled unit is declared by a positive error alone, so at its MW; where MW is below zero its level is 0."""
+
+    def level(words, answer, mw, kept, **changes):
+        solar(f"level: solar, {words}", answer, {"MW": mw, **APART, **CAPPED, **changes}, {"target": kept, **CAPPED})
+
+    # 10,001 - 0, 20,001 - 0; 25,001 - 15,000, 35,001 - 15,000; 2,000,000 - 15,000
+    level("SMALL from 0", "SMALL 10001 1000000 10001", 10001, 0)
+    level("LARGE from 0", "LARGE 20001 1000000 20001", 20001, 0)
+    level("SMALL from 15000", "SMALL 10001 1000000 25001", 25001, 15000)
+    level("LARGE from 15000", "LARGE 20001 1000000 35001", 35001, 15000)
+    level("DOUBT from 15000", "DOUBT 10001 1000000 25001", 25001, 15000, **SUBSTITUTED)
+    level("the greatest MW", "LARGE 1985000 1000000 2000000", 2000000, 15000)
+    # no trigger is under 600,000 and no kept target under 0, so that 6,001 is the least MW at which it can be declared
+    solar("level: solar, the least at a declaration", "LARGE 6001 600000 6001", {"MW": 6001, **CAPPED}, {"target": 0, **CAPPED})
+    # too low: CLEAR, by the errors of AROUND_ZERO and NEAR_ZERO
+    for mw, of_15, of_25, floored, _ in AROUND_ZERO:
+        level(f"MW {mw} under 15000", f"CLEAR {of_15} 1000000 {floored}", mw, 15000)
+        level(f"MW {mw} under 25000", f"CLEAR {of_25} 1000000 {floored}", mw, 25000)
+        level(f"MW {mw} substituted", f"CLEAR {of_15} 1000000 {floored}", mw, 15000, **SUBSTITUTED)
+    for bits, words, of_15, floored, _ in NEAR_ZERO:
+        level(f"{words} MW", f"CLEAR {of_15} 1000000 {floored}", bits, 15000)
+    level("MW -300 under 0", "CLEAR -300 1000000 0", -300, 0)
+    level("MW 1 over 0", "CLEAR 1 1000000 1", 1, 0)
+    # -(15,000 - (-2,000,000))
+    level("the least MW", "CLEAR -2015000 1000000 0", -2000000, 15000)
+    level("MW -300, bad", "BLANK", -300, 15000, **BAD)
+    solar("level: solar, MW -300, cap 0", "OFF", {"MW": -300, **APART}, {"target": 15000, **FREE})
+
+
+def aggregate_levels():
+    """The level of an aggregate is the sum of its members' MW as sent, loads subtracted, whatever their own levels are."""
+    # Of one: as in `levels`, but signed for a generating unit too. Its own level as a member at -300 is 0, see there.
+    for kind in (GENERATING, BIDIRECTIONAL):
+        for mw, of_15, of_25, _, sent in AROUND_ZERO:
+            now, where = {"MW": mw, **APART}, f"level: one {WORDS[kind]}, MW {mw}"
+            aggregate(f"{where}, SMALL", f"SMALL {of_15} 1000000 {sent}", member(kind, now, {"target": 15000}))
+            aggregate(f"{where}, LARGE", f"LARGE {of_25} 1000000 {sent}", member(kind, now, {"target": 25000}))
+        for bits, words, of_15, _, sent in NEAR_ZERO:
+            now = {"MW": bits, **APART}
+            label = f"level: one {WORDS[kind]}, {words} MW"
+            aggregate(label, f"SMALL {of_15} 1000000 {sent}", member(kind, now, {"target": 15000}))
+        answer = "LARGE -2015000 1000000 -2000000"
+        aggregate(f"level: one {WORDS[kind]}, the least MW", answer, member(kind, {"MW": -2000000, **APART}, {"target": 15000}))
+    # Of one load: the sums are -MW, and -15,000 or -25,000. 300 - (-15,000) = 15,300; -1 - (-15,000) = 14,999.
+    for mw, of_15, of_25, level in (
+        (-300, 15300, 25300, 300),
+        (-1, 15001, 25001, 1),
+        (0, 15000, 25000, 0),
+        (1, 14999, 24999, -1),
+        (300, 14700, 24700, -300),
+    ):
+        now, where = {"MW": mw, **APART}, f"level: one load, MW {mw}"
+        aggregate(f"{where}, SMALL", f"SMALL {of_15} 1000000 {level}", member(LOAD, now, {"target": 15000}))
+        aggregate(f"{where}, LARGE", f"LARGE {of_25} 1000000 {level}", member(LOAD, now, {"target": 25000}))
+    # 2,000,000 - (-15,000)
+    answer = "LARGE 2015000 1000000 2000000"
+    aggregate("level: one load, the least MW", answer, member(LOAD, {"MW": -2000000, **APART}, {"target": 15000}))
+
+    # Two on one side, MWO 250,000 twice and rates of 2,500 twice: 1,000,000 and 2,000,000 once more. Kept 10,000 + 5,000 = 15,000.
+    half = {"availability": 250000, **rates(2500, 2500)}
+
+    def two_of(kind, powers, answer):
+        first, second = (member(kind, {"MW": mw, **half}, {"target": kept}) for mw, kept in zip(powers, (10000, 5000)))
+        aggregate(f"level: two of kind {kind}, MW {powers[0]} and {powers[1]}", answer, first, second)
+
+    two_of(GENERATING, (-300, 0), "SMALL -15300 1000000 -300")
+    # 500 - 300 = 200 and -(15,000 - 200); floors on members would give 500, and 300, 301 and 0 below
+    two_of(GENERATING, (-300, 500), "SMALL -14800 1000000 200")
+    two_of(GENERATING, (300, -300), "SMALL -15000 1000000 0")
+    two_of(GENERATING, (-300, 301), "SMALL -14999 1000000 1")
+    two_of(GENERATING, (-300, -300), "SMALL -15600 1000000 -600")
+    # each becomes whole kW before they are added: 0 + 0, not -0.8; and -63 - 63, not -125
+    two_of(GENERATING, ("B9D1B717", "B9D1B717"), "SMALL -15000 1000000 0")
+    two_of(GENERATING, ("BD800000", "BD800000"), "SMALL -15126 1000000 -126")
+    two_of(BIDIRECTIONAL, (-1000, 700), "SMALL -15300 1000000 -300")
+    two_of(BIDIRECTIONAL, (-700, 700), "SMALL -15000 1000000 0")
+    two_of(BIDIRECTIONAL, (-700, 701), "SMALL -14999 1000000 1")
+    # -200 - 100 = -300 and -300 - (-15,000) = 14,700; 300 - 300 = 0; 300 - 299 = 1; floors on members would give -300 and -299
+    two_of(LOAD, (200, 100), "SMALL 14700 1000000 -300")
+    two_of(LOAD, (-300, 300), "SMALL 15000 1000000 0")
+    two_of(LOAD, (-300, 299), "SMALL 15001 1000000 1")
+    two_of(LOAD, (-300, -300), "SMALL 15600 1000000 600")
+
+    def supply_and_load(generated, drawn, answer, kept=20000, **changes):
+        """MWO 500,000 and rates of 5,000 on either side, so APART's triggers; kept MWB less 5,000."""
+        aggregate(
+            f"level: {generated} generated, {drawn} drawn, {answer.split()[0]}",
+            answer,
+            member(GENERATING, {"MW": generated, **APART, **changes}, {"target": kept}),
+            member(LOAD, {"MW": drawn, **APART}, {"target": 5000 if kept else 0}),
+        )
+
+    # kept 20,000 - 5,000 = 15,000; 700 - 1,000 = -300 and -(15,000 - (-300))
+    supply_and_load(700, 1000, "SMALL -15300 1000000 -300")
+    supply_and_load(700, 700, "SMALL -15000 1000000 0")
+    supply_and_load(701, 700, "SMALL -14999 1000000 1")
+    supply_and_load(0, 300, "SMALL -15300 1000000 -300")
+    supply_and_load(-300, 0, "SMALL -15300 1000000 -300")
+    supply_and_load(-300, 300, "SMALL -15600 1000000 -600")
+    supply_and_load(0, -300, "SMALL -14700 1000000 300")
+    supply_and_load(-300, -300, "SMALL -15000 1000000 0")
+    supply_and_load(-300, -301, "SMALL -14999 1000000 1")
+    supply_and_load(-700, -400, "SMALL -15300 1000000 -300")
+    # kept 30,000 - 5,000 = 25,000; kept 0 - 0
+    supply_and_load(700, 1000, "LARGE -25300 1000000 -300", 30000)
+    supply_and_load(-700, -400, "LARGE -25300 1000000 -300", 30000)
+    supply_and_load(700, 1000, "CLEAR -300 1000000 -300", 0)
+    supply_and_load(-300, 0, "CLEAR -300 1000000 -300", 0)
+    supply_and_load(700, 1000, "DOUBT -15300 1000000 -300", **SUBSTITUTED)
+    supply_and_load(-300, 0, "DOUBT -15300 1000000 -300", **SUBSTITUTED)
+    supply_and_load(-300, 0, "BLANK", **BAD)
+    # -2,000,000 - 2,000,000 and -(15,000 - (-4,000,000))
+    supply_and_load(-2000000, 2000000, "LARGE -4015000 1000000 -4000000")
+
+    def three(generated, drawn, battery, answer):
+        """MWO 250,000 + 250,000 and rates of 2,500 + 2,500 against a load with as much; kept 25,000 - 5,000 - 5,000 = 15,000."""
+        aggregate(
+            f"level: {generated}, {drawn} and {battery} of three kinds",
+            answer,
+            member(GENERATING, {"MW": generated, **half}, {"target": 25000}),
+            member(LOAD, {"MW": drawn, **APART}, {"target": 5000}),
+            member(BIDIRECTIONAL, {"MW": battery, **half}, {"target": -5000}),
+        )
+
+    # -300 - 100 - 500 = -900; -300 + 200 - 200 = -300; 0 + 300 - 300 = 0; -300 + 1 + 300 = 1
+    three(-300, 100, -500, "SMALL -15900 1000000 -900")
+    three(-300, -200, -200, "SMALL -15300 1000000 -300")
+    three(0, -300, -300, "SMALL -15000 1000000 0")
+    three(-300, -1, 300, "SMALL -14999 1000000 1")
+    # 64 x -300 = -19,200. MWO 64 x 100,000, rates 64 x 3,000: small 3 x 6,400,000 against 200 x 192,000, large 5 x 6,400,000;
+    # -(6,400,000 - (-19,200)) is past it
+    answer = "LARGE -6419200 19200000 -19200"
+    aggregate("level: 64 generating units, MW -300", answer, member(GENERATING, {"MW": -300}, {}), count=64)
+    # 32 x (-300 + 300) = 0 and 32 x (-300 - 300) = -19,200. MWO 3,200,000 on either side: 9,600,000. Kept 32 x (100,000 - 50,000) =
+    # 1,600,000, and 5 x 3,200,000 = 16,000,000 against 160,000,000 and more.
+    for drawn, answer in ((-300, "LARGE -1600000 9600000 0"), (300, "LARGE -1619200 9600000 -19200")):
+        pair = member(GENERATING, {"MW": -300}, {}), member(LOAD, {"MW": drawn}, {"target": 50000})
+        aggregate(f"level: 32 generating units, MW -300, and 32 loads, MW {drawn}", answer, *pair, count=64)
+
+
 def main(arguments):
     for section in (table, worked_examples, edges, cap_flags, kept_or_present, triggers, rates_of_change, unit_marks):
         section()
-    for section in (aggregate_edges, sums, directions, sides, aggregate_marks, largest):
+    for section in (aggregate_edges, sums, directions, sides, aggregate_marks, largest, levels, solar_levels, aggregate_levels):
         section()
-    write_or_check(arguments, __doc__, CRATE, cases)
+    write_or_check(arguments, __doc__, CRATE, cases, BLOCKS)
 
 
 if __name__ == "__main__":

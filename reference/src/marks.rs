@@ -27,14 +27,15 @@ pub struct Assessment {
     pub error: i32,
     /// The small trigger.
     pub trigger: u32,
-    /// MW, the signed sum for an aggregate; the level if this interval declares the point.
-    pub power: i32,
+    /// The level if this interval declares the point: a unit's MW as far as its kind allows, the signed sum for an
+    /// aggregate.
+    pub level: i32,
 }
 
 impl Assessment {
     #[inline(always)]
     fn without_error(mark: Mark) -> Self {
-        Self { mark, error: 0, trigger: 0, power: 0 }
+        Self { mark, error: 0, trigger: 0, level: 0 }
     }
 }
 
@@ -80,7 +81,7 @@ pub fn error(power: i32, target: i32, up: u32, down: u32) -> i32 {
 
 /// CLEAR, DOUBT, SMALL or LARGE.
 #[inline(always)]
-fn judge(power: i32, error: i32, triggers: Triggers, substituted: bool) -> Assessment {
+fn judge(level: i32, error: i32, triggers: Triggers, substituted: bool) -> Assessment {
     let size = 100 * u64::from(error.unsigned_abs());
     let mark = if size <= u64::from(triggers.small) {
         Mark::Clear
@@ -91,7 +92,7 @@ fn judge(power: i32, error: i32, triggers: Triggers, substituted: bool) -> Asses
     } else {
         Mark::Small
     };
-    Assessment { mark, error, trigger: triggers.small, power }
+    Assessment { mark, error, trigger: triggers.small, level }
 }
 
 /// A unit's assessment from this interval's line and the line kept from the interval before; None is unreadable, and
@@ -113,7 +114,7 @@ pub fn assess_unit(kind: Kind, member: bool, line: Option<&Line>, kept: Option<&
     };
     let rate = rate(line.target.cmp(&line.power), line.ramp_up, line.ramp_down);
     let found = judge(
-        line.power,
+        kind.level(line.power),
         error(line.power, kept.target, up, down),
         Triggers::of(line.availability, rate),
         line.quality == Quality::Substituted,
@@ -365,7 +366,8 @@ mod tests {
                         ..ORDINARY
                     };
                     let found = |kept| assess_unit(Kind::SemiScheduled, false, Some(&line), Some(kept));
-                    assert_eq!(found(&CAPPED), Assessment { mark, error, trigger: 600_000, power });
+                    let level = power.max(0);
+                    assert_eq!(found(&CAPPED), Assessment { mark, error, trigger: 600_000, level });
                     assert_eq!(found(&UNCAPPED), Assessment::without_error(Off));
                 }
             }
@@ -439,6 +441,36 @@ mod tests {
     }
 
     #[test]
+    fn levels() {
+        for (power, floored) in
+            [(-2_000_000, 0), (-300, 0), (-1, 0), (0, 0), (1, 1), (300, 300), (2_000_000, 2_000_000)]
+        {
+            let line = Line { power, ..ORDINARY };
+            let level = |kind, member| assess_unit(kind, member, Some(&line), Some(&KEPT)).level;
+            for member in [false, true] {
+                assert_eq!(level(Kind::Generating, member), floored);
+                assert_eq!(level(Kind::Load, member), floored);
+                assert_eq!(level(Kind::Bidirectional, member), power);
+            }
+            let capped = assess_unit(Kind::SemiScheduled, false, Some(&line), Some(&CAPPED));
+            assert_eq!(capped.level, floored);
+            // An aggregate adds the signed MW of its members and not their levels.
+            let aggregate = |kinds: &[Kind]| {
+                let mut sums = Aggregate::default();
+                for &kind in kinds {
+                    sums.add(kind, Some(&line), Some(&KEPT));
+                }
+                sums.assess().level
+            };
+            assert_eq!(aggregate(&[Kind::Generating]), power);
+            assert_eq!(aggregate(&[Kind::Bidirectional]), power);
+            assert_eq!(aggregate(&[Kind::Load]), -power);
+            assert_eq!(aggregate(&[Kind::Generating, Kind::Bidirectional]), 2 * power);
+            assert_eq!(aggregate(&[Kind::Load, Kind::Generating, Kind::Load]), -power);
+        }
+    }
+
+    #[test]
     fn direction_of_a_unit() {
         let base = Line { availability: 2_000_000, ramp_up: 4_000, ramp_down: 5_000, ..ORDINARY };
         let trigger = |kind, power| assess_unit(kind, false, Some(&Line { power, ..base }), Some(&KEPT)).trigger;
@@ -475,7 +507,7 @@ mod tests {
         // Equal: generating 7,000, loads 6,000.
         assert_eq!(found(100_000).trigger, 1_400_000);
         // Signed sums; FCR is up for the loads too: kept target -100,000, up 15,000, down 0.
-        assert_eq!(found(100_000).power, 80_000);
+        assert_eq!(found(100_000).level, 80_000);
         assert_eq!(found(100_000).error, 80_000 - (-100_000 + 15_000));
         assert_eq!(found(-190_000).error, (-210_000) - (-100_000));
     }
@@ -508,7 +540,7 @@ mod tests {
         }
         let found = sums.assess();
         assert_eq!(
-            (found.mark, found.error, found.trigger, found.power),
+            (found.mark, found.error, found.trigger, found.level),
             (Mark::Large, 256_000_000, 384_000_000, 128_000_000)
         );
         let low = Line { power: -2_000_000, ..line };
@@ -518,7 +550,7 @@ mod tests {
             sums.add(Kind::Bidirectional, Some(&low), Some(&kept));
         }
         let found = sums.assess();
-        assert_eq!((found.mark, found.error, found.power), (Mark::Large, -256_000_000, -128_000_000));
+        assert_eq!((found.mark, found.error, found.level), (Mark::Large, -256_000_000, -128_000_000));
     }
 
     #[test]

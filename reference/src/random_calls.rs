@@ -11,6 +11,8 @@ use crate::replay::Script;
 /// A list ends when it has grown to this many bytes.
 const LONGEST: usize = 160_000;
 const LIMIT: i64 = 2_000_000;
+/// Bounds of an operator's level, and beside them.
+const LEVELS: [i32; 9] = [i32::MIN, -128_000_001, -128_000_000, -1, 0, 1, 128_000_000, 128_000_001, i32::MAX];
 
 /// The list of a seed.
 pub fn list(seed: u64) -> Vec<u8> {
@@ -59,6 +61,21 @@ enum Course {
     Large,
     /// On one side or the other of a trigger, or exactly at it.
     Edge,
+    /// Out of service: around 0, whatever the targets.
+    Tripped,
+}
+
+/// Courses away from target, the likelier ones more than once.
+fn courses_away(stubborn: bool, semi_scheduled: bool) -> &'static [Course] {
+    use Course::{Edge, Large, Small, Tripped};
+    if stubborn {
+        &[Small, Large]
+    } else if semi_scheduled {
+        // Tripped it is CLEAR.
+        &[Small, Small, Large, Large, Edge, Tripped]
+    } else {
+        &[Small, Small, Large, Large, Edge, Tripped, Tripped]
+    }
 }
 
 struct Group {
@@ -70,6 +87,8 @@ struct Group {
     upward: bool,
     /// Intervals left on this course.
     left: u32,
+    /// Intervals since it was on target.
+    away: u32,
 }
 
 struct Unit {
@@ -101,6 +120,15 @@ impl Sketch {
 
     fn semi_scheduled(&self) -> Vec<usize> {
         (0..self.units.len()).filter(|&unit| self.units[unit].kind == Kind::SemiScheduled).collect()
+    }
+
+    /// Points of the groups that have been away for long enough to be at Not-Responding or beyond.
+    fn declarable(&self) -> Vec<u32> {
+        let points = |group: &Group| {
+            let aggregate = group.aggregate.map(|aggregate| self.units.len() + aggregate);
+            group.units.clone().into_iter().chain(aggregate).map(|point| point as u32 + 1)
+        };
+        self.groups.iter().filter(|group| group.away >= 2).flat_map(points).collect()
     }
 }
 
@@ -231,7 +259,7 @@ impl Author {
                 let buffer: Vec<u8> = (0..length).map(|_| self.random.byte()).collect();
                 self.script.interval(16, &buffer);
             }
-            2 => self.script.declare(1, 0),
+            2 => self.script.declare(self.random.below(3) as u32, self.random.pick(&LEVELS)),
             3 => self.script.reinstate(0),
             _ => self.script.look(1),
         }
@@ -268,7 +296,7 @@ impl Author {
 
     /// Runs that pass 255 in manual mode, then often a backlog that declares in automatic mode.
     fn long_run(&mut self) {
-        let units = self.random.below(4) + 1;
+        let units = self.random.below(6) + 1;
         self.load_sound(Some(units));
         self.modes = Modes::Manual;
         self.manual_now = true;
@@ -358,7 +386,8 @@ impl Author {
             units.push(sketch_unit(random, Kind::of(u32::from(kind)).unwrap_or(Kind::Generating)));
         }
         let mut groups = Vec::new();
-        let fresh = |aggregate, units| Group { aggregate, units, course: Course::OnTarget, upward: true, left: 1 };
+        let fresh =
+            |aggregate, units| Group { aggregate, units, course: Course::OnTarget, upward: true, left: 1, away: 0 };
         for (aggregate, chain) in chains.iter().enumerate() {
             bytes.extend([chain[0] as u8 + 1, 0, 0, 0]);
             groups.push(fresh(Some(aggregate), chain.clone()));
@@ -411,7 +440,7 @@ impl Author {
         let heads = 16 + 4 * n;
         let head = heads + 4 * random.below(m.max(1));
         let some_unit = random.within(1, n as i64) as u8;
-        match random.below(16) {
+        match random.below(18) {
             0 => bytes.truncate(random.below(16)),
             1 => match random.below(4) {
                 0 => bytes.push(0),
@@ -475,7 +504,7 @@ impl Author {
                     set(bytes, unit + 1, some_unit);
                 }
             }
-            10..=13 => {
+            10..=15 => {
                 chain_semi_scheduled(random, bytes, sketch);
                 // A second one, or a next in a unit that no chain meets, whose refusal goes before.
                 let loners = sketch.loners();
@@ -604,20 +633,18 @@ impl Author {
         if group.left == 0 {
             let away = if self.stubborn { 990 } else { 550 };
             group.course = if random.chance(away) {
-                random.pick(&[Course::Small, Course::Small, Course::Large, Course::Large, Course::Edge])
+                random.pick(courses_away(self.stubborn, semi_scheduled))
             } else {
                 Course::OnTarget
             };
-            if self.stubborn && group.course == Course::Edge {
-                group.course = Course::Small;
-            }
             group.upward = random.chance(if semi_scheduled { 700 } else { 500 });
             group.left = match group.course {
                 Course::OnTarget => random.within(1, 4) as u32,
-                _ if self.stubborn => random.within(100, 900) as u32,
+                _ if self.stubborn => random.within(250, 900) as u32,
                 _ => random.within(1, 9) as u32,
             };
         }
+        group.away = if group.course == Course::OnTarget { 0 } else { group.away + 1 };
         if random.chance(100) {
             group.upward = !group.upward;
         }
@@ -645,8 +672,14 @@ impl Author {
             }
             drafts[unit] = Some(draft);
         }
-        if member && group.course != Course::OnTarget && (self.stubborn || random.chance(600)) {
-            tune_aggregate(random, units, group, drafts, self.stubborn);
+        if !member {
+            return;
+        }
+        match group.course {
+            Course::OnTarget => {}
+            Course::Tripped => trip_aggregate(random, units, group, drafts),
+            _ if self.stubborn || random.chance(600) => tune_aggregate(random, units, group, drafts, self.stubborn),
+            _ => {}
         }
     }
 
@@ -713,6 +746,7 @@ impl Author {
         let points = self.sketch.as_ref().map_or(1, |sketch| sketch.units.len() + sketch.aggregates) as u32;
         let units = self.sketch.as_ref().map_or(1, |sketch| sketch.units.len()) as u32;
         let semi_scheduled = self.sketch.as_ref().map_or(Vec::new(), Sketch::semi_scheduled);
+        let declarable = self.sketch.as_ref().map_or(Vec::new(), Sketch::declarable);
         let random = &mut self.random;
         if random.chance(80) {
             for point in 1..=points.min(20) {
@@ -722,11 +756,17 @@ impl Author {
         }
         if random.chance(40) {
             for point in 1..=points.min(20) {
-                self.script.declare(point, random.within(-300_000, 300_000) as i32);
+                self.script.declare(point, operator_level(random));
             }
             return;
         }
-        let point = match random.below(20) {
+        if !declarable.is_empty() && random.chance(100) {
+            for &point in declarable.iter().take(10) {
+                self.try_levels(point);
+            }
+            return;
+        }
+        let point = match random.below(26) {
             0 => 0,
             1 => points + 1,
             2 => {
@@ -736,19 +776,11 @@ impl Author {
             3 => random.pick(&[u32::MAX, random_word(points)]),
             4..=9 if points > units => units + 1 + random.below((points - units) as usize) as u32,
             10..=13 if !semi_scheduled.is_empty() => random.pick(&semi_scheduled) as u32 + 1,
+            14..=19 if !declarable.is_empty() => random.pick(&declarable),
             _ => random.within(1, i64::from(points)) as u32,
         };
-        let level = match random.below(12) {
-            0 => 128_000_000,
-            1 => -128_000_000,
-            2 => 128_000_001,
-            3 => -128_000_001,
-            4 => random.pick(&[i32::MIN, i32::MAX]),
-            5 => 0,
-            6 => random.next() as i32,
-            _ => random.within(-300_000, 300_000) as i32,
-        };
-        match random.below(6) {
+        let level = operator_level(random);
+        match random.below(8) {
             0 => self.script.look(point),
             1 => self.script.declare(point, level),
             2 => {
@@ -760,12 +792,29 @@ impl Author {
                 self.script.reinstate(point);
                 self.script.look(point);
             }
-            _ => {
+            5 => {
                 self.script.declare(point, level);
                 self.script.look(point);
                 self.script.reinstate(point);
                 self.script.look(point);
             }
+            _ => self.try_levels(point),
+        }
+    }
+
+    /// Levels at their bounds, one after the other; often rising, so that those below 0 meet the point undeclared.
+    fn try_levels(&mut self, point: u32) {
+        let random = &mut self.random;
+        let mut levels: Vec<i32> = (0..random.within(2, 5)).map(|_| level_at_a_bound(random)).collect();
+        if random.chance(350) {
+            levels.sort_unstable();
+        }
+        for level in levels {
+            self.script.declare(point, level);
+        }
+        self.script.look(point);
+        if random.chance(500) {
+            self.script.reinstate(point);
         }
     }
 
@@ -803,6 +852,34 @@ fn random_word(points: u32) -> u32 {
     points.wrapping_mul(0x9E37_79B1) | 0x100
 }
 
+fn level_at_a_bound(random: &mut Random) -> i32 {
+    if random.chance(400) {
+        random.pick(&[-1, 0])
+    } else {
+        random.pick(&LEVELS)
+    }
+}
+
+fn operator_level(random: &mut Random) -> i32 {
+    match random.below(12) {
+        0..=6 => level_at_a_bound(random),
+        7 => random.next() as i32,
+        _ => random.within(-300_000, 300_000) as i32,
+    }
+}
+
+/// Mostly 0 and beside it, or what auxiliaries take; now and then down to the bound.
+fn tripped_power(random: &mut Random) -> i64 {
+    match random.below(8) {
+        0 | 1 => 0,
+        2 | 3 => 1,
+        4 => -1,
+        5 => -300,
+        6 => random.within(-30_000, 300),
+        _ => random.within(-LIMIT, 0),
+    }
+}
+
 fn get(bytes: &[u8], at: usize) -> u8 {
     bytes.get(at).copied().unwrap_or(0)
 }
@@ -827,7 +904,7 @@ fn sketch_unit(random: &mut Random, kind: Kind) -> Unit {
     };
     Unit {
         kind,
-        target: if kind == Kind::Bidirectional && random.chance(500) { -target } else { target },
+        target: if kind.is_signed() && random.chance(500) { -target } else { target },
         availability: match random.below(8) {
             0 => random.within(0, 120_000) as u32,
             1 => 200_000,
@@ -883,7 +960,7 @@ fn next_cap_flag(random: &mut Random, unit: &mut Unit, stubborn: bool) -> u8 {
 
 /// A line on the group's course. A stubborn one stays away for good.
 fn draft_unit(random: &mut Random, unit: &mut Unit, course: Course, upward: bool, stubborn: bool) -> Draft {
-    let lowest = if unit.kind == Kind::Bidirectional { -LIMIT } else { 0 };
+    let lowest = if unit.kind.is_signed() { -LIMIT } else { 0 };
     unit.target = (unit.target + random.within(-4_000, 4_000)).clamp(lowest, LIMIT);
     let target = match random.below(60) {
         0 if !stubborn => lowest,
@@ -920,6 +997,7 @@ fn draft_unit(random: &mut Random, unit: &mut Unit, course: Course, upward: bool
     draft.power = match course {
         Course::OnTarget if random.chance(250) => target,
         Course::OnTarget => kept_target + random.within(-down - 5_000, up + 5_000),
+        Course::Tripped => tripped_power(random),
         _ => {
             // Two guesses at the direction that the power will decide.
             let mut power = kept_target;
@@ -956,7 +1034,7 @@ fn tune_aggregate(random: &mut Random, units: &[Unit], group: &Group, drafts: &m
     for &unit in &group.units {
         let (Some(draft), Some((sent, raise, lower))) = (&drafts[unit], units[unit].sent) else { return };
         let load = units[unit].kind == Kind::Load;
-        let sign = if load { -1 } else { 1 };
+        let sign = sign(&units[unit]);
         target += sign * draft.target;
         power += sign * draft.power;
         kept_target += sign * sent;
@@ -981,18 +1059,38 @@ fn tune_aggregate(random: &mut Random, units: &[Unit], group: &Group, drafts: &m
             _ => large + 1 + share,
         };
         let wanted = if group.upward { kept_target + up + error } else { kept_target - down - error };
-        if (target - wanted).signum() != guess {
-            continue;
+        if (target - wanted).signum() == guess {
+            move_aggregate(random, units, group, drafts, wanted - power);
+            return;
         }
-        let unit = random.pick(&group.units);
-        let sign = if units[unit].kind == Kind::Load { -1 } else { 1 };
-        if let Some(draft) = &mut drafts[unit] {
-            let moved = draft.power + sign * (wanted - power);
-            if moved.abs() <= LIMIT {
-                draft.power = moved;
-            }
+    }
+}
+
+/// Moves one member's power so that the aggregate's comes to lie around 0.
+fn trip_aggregate(random: &mut Random, units: &[Unit], group: &Group, drafts: &mut [Option<Draft>]) {
+    let signed_power = |&unit: &usize| drafts[unit].map_or(0, |draft| sign(&units[unit]) * draft.power);
+    let power: i64 = group.units.iter().map(signed_power).sum();
+    let wanted = tripped_power(random);
+    move_aggregate(random, units, group, drafts, wanted - power);
+}
+
+/// Moves one member's power, where its bounds allow, so that the aggregate's moves by this much.
+fn move_aggregate(random: &mut Random, units: &[Unit], group: &Group, drafts: &mut [Option<Draft>], by: i64) {
+    let unit = random.pick(&group.units);
+    if let Some(draft) = &mut drafts[unit] {
+        let moved = draft.power + sign(&units[unit]) * by;
+        if moved.abs() <= LIMIT {
+            draft.power = moved;
         }
-        return;
+    }
+}
+
+/// A load is subtracted in its aggregate's sums.
+fn sign(unit: &Unit) -> i64 {
+    if unit.kind == Kind::Load {
+        -1
+    } else {
+        1
     }
 }
 

@@ -26,7 +26,7 @@ pub enum Refusal {
     Header = 9,
     /// Point 0 or above n + m.
     Point = 10,
-    /// Level beyond ±128,000,000.
+    /// Level beyond ±128,000,000, or negative for a unit whose target cannot be.
     Level = 11,
     /// No register loaded.
     NoRegister = 20,

@@ -154,6 +154,11 @@ impl Plant {
         self.kinds[unit]
     }
 
+    /// Whether the level of a point, counted from 0, may be negative.
+    pub fn is_signed(&self, point: usize) -> bool {
+        point >= self.units() || self.kind(point).is_signed()
+    }
+
     /// Lengths for the small run.
     pub fn small(&self) -> RunLengths {
         self.small

@@ -97,6 +97,20 @@ fn worked_example() {
 }
 
 #[test]
+fn a_tripped_unit_printed() {
+    let intervals = [(10, 100.0), (11, -0.3), (12, -0.3), (13, -0.3), (14, -0.3)]
+        .map(|(number, mw)| buffer(number, 1, &[line(mw)]))
+        .concat();
+    let first = "10 1 0 1 0 0 0 0 0\n11 1 1 5 1 1 -100300 600000 0\n12 1 2 5 2 2 -100300 600000 0\n\
+                 13 1 3 5 3 3 -100300 600000 0\n14 1 4 5 0 0 -100300 600000 ";
+    for (kind, level) in [(1, "0\n"), (2, "0\n"), (3, "-300\n")] {
+        let mut out = Vec::new();
+        program::run(&register([2, 3, 4, 2, 3, 4], &[(kind, 0)], &[]), &intervals, &mut out).unwrap();
+        assert_eq!(String::from_utf8(out).unwrap(), [first, level].concat());
+    }
+}
+
+#[test]
 fn report_bytes() {
     let mut monitor = Monitor::new();
     monitor.load(&register([2, 3, 4, 2, 3, 4], &[(1, 0)], &[])).unwrap();
@@ -267,9 +281,12 @@ fn operator_calls() {
     }
     for level in [128_000_001, -128_000_001, i32::MIN, i32::MAX] {
         assert_eq!(monitor.declare(1, level).unwrap_err().number(), 11);
+        assert_eq!(monitor.declare(2, level).unwrap_err().number(), 11);
     }
-    for level in [128_000_000, -128_000_000] {
-        assert_eq!(monitor.declare(1, level).unwrap_err().number(), 22);
+    // The unit's level cannot be negative, its aggregate's can.
+    for (level, unit) in [(128_000_000, 22), (0, 22), (-1, 11), (-128_000_000, 11)] {
+        assert_eq!(monitor.declare(1, level).unwrap_err().number(), unit);
+        assert_eq!(monitor.declare(2, level).unwrap_err().number(), 22);
     }
     assert_eq!(monitor.reinstate(2).unwrap_err().number(), 23);
     let mut report = [0; 32];
@@ -289,6 +306,257 @@ fn operator_calls() {
     assert_eq!(monitor.look(2).unwrap().level, -128_000_000);
     assert_eq!(monitor.load(&register([2, 3, 4, 2, 3, 4], &[(1, 0)], &[1])), Ok(1));
     assert_eq!(monitor.look(2), Ok(Look { status: 0, small: 0, large: 0, level: 0 }));
+}
+
+/// MW at a declaration, the same in kW, its error against a target of 100,000, and the level for kinds 1 and 2.
+const DECLARED_AT: [(f32, i32, i32, i32); 11] = [
+    (-2_000.0, -2_000_000, -2_100_000, 0),
+    (-0.3, -300, -100_300, 0),
+    (-0.001, -1, -100_001, 0),
+    (-0.0006, -1, -100_001, 0),
+    (-0.0004, 0, -100_000, 0),
+    (-0.0, 0, -100_000, 0),
+    (0.0, 0, -100_000, 0),
+    (0.0006, 1, -99_999, 1),
+    (0.001, 1, -99_999, 1),
+    (93.999, 93_999, -6_001, 93_999),
+    (107.0, 107_000, 7_000, 107_000),
+];
+
+#[test]
+fn levels_in_no_chain() {
+    for (mw, kw, error, floored) in DECLARED_AT {
+        for (kind, level) in [(1, floored), (2, floored), (3, kw)] {
+            let mut one = One::of_kind(kind, [2, 3, 4, 2, 3, 4]);
+            one.interval(1, 1, line(100.0));
+            for (number, status) in [(2, 1), (3, 2), (4, 3)] {
+                let record = one.interval(number, 1, line(92.0));
+                assert_eq!((record.status, record.level), (status, 0));
+            }
+            // The error is the power's own.
+            let record = one.interval(5, 1, line(mw));
+            assert_eq!(record, Record { status: 4, mark: 5, small: 0, large: 0, error, trigger: 600_000, level });
+            assert_eq!(one.0.look(1), Ok(Look { status: 4, small: 0, large: 0, level }));
+            // The level stands.
+            for (number, later) in [(6, -0.3), (7, 150.0), (8, 100.0)] {
+                assert_eq!(one.interval(number, 1, line(later)).level, level);
+            }
+        }
+    }
+}
+
+#[test]
+fn below_a_target_of_zero() {
+    // Ramp up 9,000, ramp down 4,000: below the target, small trigger 1,800,000 and large 3,600,000.
+    let uncovered = |mw: f32| {
+        let mut bytes = line(mw);
+        for (at, value) in [(4, 0u32), (8, 2_000_000), (20, 9_000), (24, 4_000)] {
+            bytes[at..at + 4].copy_from_slice(&value.to_le_bytes());
+        }
+        for (at, value) in [(32, 9.0f32), (36, 4.0)] {
+            bytes[at..at + 4].copy_from_slice(&value.to_le_bytes());
+        }
+        bytes
+    };
+    for (kind, level) in [(1, 0), (2, 0), (3, -36_001)] {
+        let mut one = One::of_kind(kind, [2, 3, 4, 2, 3, 4]);
+        one.interval(1, 1, uncovered(0.0));
+        for (number, mw, mark, error) in [
+            (2, -0.3, 2, -300),
+            (3, -18.0, 2, -18_000),
+            (4, -18.001, 4, -18_001),
+            (5, -36.0, 4, -36_000),
+            (6, -36.001, 5, -36_001),
+        ] {
+            let record = one.interval(number, 1, uncovered(mw));
+            assert_eq!((record.mark, record.error, record.trigger, record.level), (mark, error, 1_800_000, 0));
+        }
+        let record = one.interval(7, 1, uncovered(-36.001));
+        assert_eq!((record.status, record.error, record.level), (4, -36_001, level));
+    }
+}
+
+#[test]
+fn levels_in_a_chain() {
+    for (mw, kw, error, floored) in DECLARED_AT {
+        // Kind, level and error of the unit, then of its aggregate: a load is subtracted there.
+        for (kind, level, sum, sum_error) in [(1, floored, kw, error), (2, floored, -kw, -error), (3, kw, kw, error)] {
+            let mut monitor = Monitor::new();
+            assert_eq!(monitor.load(&register([2, 3, 4, 2, 3, 4], &[(kind, 0)], &[1])), Ok(1));
+            let mut report = [0; 32];
+            for number in 1..=5 {
+                let mw = [100.0, 92.0, 92.0, 92.0, mw][number as usize - 1];
+                monitor.interval(&buffer(number, 1, &[member(mw, 2)]), &mut report).unwrap();
+            }
+            let declared =
+                |error, level| Record { status: 4, mark: 5, small: 0, large: 0, error, trigger: 600_000, level };
+            let records: Vec<Record> = report.as_chunks().0.iter().map(Record::of).collect();
+            assert_eq!(records, [declared(error, level), declared(sum_error, sum)]);
+        }
+    }
+}
+
+#[test]
+fn an_aggregate_adds_powers_and_not_levels() {
+    // The MW of members of these kinds, their levels, and that of their aggregate.
+    type Case<'a> = (&'a [(u8, f32, i32)], i32);
+    let cases: [Case; 6] = [
+        (&[(1, -0.3, 0), (2, -0.2, 0), (3, -0.1, -100)], -200),
+        (&[(1, -0.3, 0), (1, 0.3, 300)], 0),
+        (&[(1, -0.3, 0), (1, 0.301, 301)], 1),
+        (&[(2, -0.3, 0), (2, -0.3, 0)], 600),
+        (&[(2, 0.5, 500), (3, -0.3, -300), (1, 0.001, 1), (1, -0.001, 0)], -800),
+        (&[(3, -2_000.0, -2_000_000), (1, -2_000.0, 0)], -4_000_000),
+    ];
+    for (members, sum) in cases {
+        let chain: Vec<(u8, u8)> = members
+            .iter()
+            .enumerate()
+            .map(|(at, &(kind, ..))| (kind, if at + 1 == members.len() { 0 } else { at as u8 + 2 }))
+            .collect();
+        let mut monitor = Monitor::new();
+        monitor.load(&register([2, 3, 4, 2, 3, 4], &chain, &[1])).unwrap();
+        let mut report = vec![0; 16 * members.len() + 16];
+        for number in 1..=5 {
+            let power = |&(_, mw, _): &(u8, f32, i32)| member(if number == 1 { 100.0 } else { mw }, 2);
+            let lines: Vec<[u8; 40]> = members.iter().map(power).collect();
+            monitor.interval(&buffer(number, 1, &lines), &mut report).unwrap();
+        }
+        let found: Vec<(u8, i32)> = report.as_chunks().0.iter().map(Record::of).map(|r| (r.status, r.level)).collect();
+        let levels: Vec<(u8, i32)> = members.iter().map(|&(.., level)| (4, level)).chain([(4, sum)]).collect();
+        assert_eq!(found, levels);
+    }
+}
+
+#[test]
+fn a_semi_scheduled_unit_is_declared_above_zero() {
+    // With a target of 0 the least MW that counts is 6,001 kW.
+    let uncovered = |mw: f32| {
+        let mut bytes = flagged(mw, 1);
+        bytes[4..8].fill(0);
+        bytes
+    };
+    let mut one = One::of_kind(4, [2, 3, 4, 2, 3, 4]);
+    one.interval(1, 1, uncovered(0.0));
+    assert_eq!(summary(one.interval(2, 1, uncovered(6.0))), (0, 2, 0, 0));
+    for (number, status) in [(3, 1), (4, 2), (5, 3)] {
+        assert_eq!(one.interval(number, 1, uncovered(107.0)).status, status);
+    }
+    let record = one.interval(6, 1, uncovered(6.001));
+    assert_eq!((record.status, record.error, record.level), (4, 6_001, 6_001));
+    // Tripped it is CLEAR, however long.
+    let mut one = One::of_kind(4, [2, 3, 4, 2, 3, 4]);
+    one.interval(1, 1, flagged(100.0, 1));
+    for number in 2..=20 {
+        let record = one.interval(number, 1, flagged(-0.3, 1));
+        assert_eq!((record.status, record.mark, record.error, record.level), (0, 2, -100_300, 0));
+    }
+}
+
+/// An operator's levels, and 11 where it applies to them: for kinds 1, 2 and 4, then for kind 3 and aggregates.
+const OPERATOR_LEVELS: [(i32, u32, u32); 12] = [
+    (i32::MIN, 11, 11),
+    (-128_000_001, 11, 11),
+    (-128_000_000, 11, 0),
+    (-2_000_001, 11, 0),
+    (-300, 11, 0),
+    (-1, 11, 0),
+    (0, 0, 0),
+    (1, 0, 0),
+    (300, 0, 0),
+    (128_000_000, 0, 0),
+    (128_000_001, 11, 11),
+    (i32::MAX, 11, 11),
+];
+
+#[test]
+fn operator_levels() {
+    // Kind, in a chain or in none, the point, and whether its level may be negative.
+    for (kind, chained, point, signed) in [
+        (1, false, 1, false),
+        (2, false, 1, false),
+        (3, false, 1, true),
+        (4, false, 1, false),
+        (1, true, 1, false),
+        (2, true, 1, false),
+        (3, true, 1, true),
+        (1, true, 2, true),
+        (2, true, 2, true),
+        (3, true, 2, true),
+    ] {
+        let heads: &[u8] = if chained { &[1] } else { &[] };
+        let own = |mw| match (kind, chained) {
+            (4, _) => flagged(mw, 1),
+            (_, true) => member(mw, 2),
+            (_, false) => line(mw),
+        };
+        // How many intervals away, in which mode, and the status then.
+        for (away, mode, status) in [(0, 1, 0), (1, 1, 1), (2, 1, 2), (3, 0, 2), (9, 0, 2), (3, 1, 3), (4, 1, 4)] {
+            let mut monitor = Monitor::new();
+            monitor.load(&register([2, 3, 4, 2, 3, 4], &[(kind, 0)], heads)).unwrap();
+            let mut report = vec![0; 16 + 16 * heads.len()];
+            monitor.interval(&buffer(1, mode, &[own(100.0)]), &mut report).unwrap();
+            for number in 2..2 + away {
+                monitor.interval(&buffer(number, mode, &[own(107.0)]), &mut report).unwrap();
+            }
+            assert_eq!(monitor.look(point).unwrap().status, status);
+            for (level, floored_kinds, signed_points) in OPERATOR_LEVELS {
+                let mut after = monitor.clone();
+                let answer = after.declare(point, level).map_err(|refusal| refusal.number());
+                match if signed { signed_points } else { floored_kinds } {
+                    // 11 goes before 22.
+                    11 => assert_eq!(answer, Err(11)),
+                    _ if [2, 3].contains(&status) => {
+                        assert_eq!(answer, Ok(()));
+                        assert_eq!(after.look(point), Ok(Look { status: 4, small: 0, large: 0, level }));
+                    }
+                    _ => assert_eq!(answer, Err(22)),
+                }
+                assert!(answer.is_ok() || after == monitor);
+                // 10 goes before 11.
+                for outside in [0, 3, 256 + point, u32::MAX] {
+                    assert_eq!(monitor.declare(outside, level).unwrap_err().number(), 10);
+                }
+                // 20 goes before 10 and 11.
+                assert_eq!(Monitor::new().declare(0, level).unwrap_err().number(), 20);
+                assert_eq!(Monitor::new().declare(point, level).unwrap_err().number(), 20);
+            }
+        }
+    }
+}
+
+#[test]
+fn operator_levels_in_the_largest_register() {
+    // Chains of three of the kinds 1, 2 and 3, sixteen of them; units 49 to 64 are of kind 4.
+    let units: Vec<(u8, u8)> =
+        (1..=64).map(|u| if u > 48 { (4, 0) } else { ((u - 1) % 3 + 1, if u % 3 == 0 { 0 } else { u + 1 }) }).collect();
+    let heads: Vec<u8> = (0..16).map(|a| 3 * a + 1).collect();
+    let mut monitor = Monitor::new();
+    assert_eq!(monitor.load(&register([2, 3, 4, 2, 3, 4], &units, &heads)), Ok(48));
+    for point in 1..=80 {
+        let negative = if point > 64 || (point <= 48 && point % 3 == 0) { 22 } else { 11 };
+        assert_eq!(monitor.declare(point, -1).unwrap_err().number(), negative);
+        assert_eq!(monitor.declare(point, -128_000_000).unwrap_err().number(), negative);
+        assert_eq!(monitor.declare(point, -128_000_001).unwrap_err().number(), 11);
+        assert_eq!(monitor.declare(point, 0).unwrap_err().number(), 22);
+        assert_eq!(monitor.declare(point, 128_000_001).unwrap_err().number(), 11);
+    }
+    assert_eq!(monitor.declare(81, -1).unwrap_err().number(), 10);
+}
+
+#[test]
+fn a_refused_level_leaves_the_point_to_an_interval() {
+    let mut one = One::new([2, 3, 4, 2, 3, 4]);
+    one.interval(1, 1, line(100.0));
+    for (number, run) in [(2, 1), (3, 2), (4, 3)] {
+        one.interval(number, 1, line(-0.3));
+        assert_eq!(one.0.declare(1, -300).unwrap_err().number(), 11);
+        assert_eq!(one.0.look(1), Ok(Look { status: run, small: run, large: run, level: 0 }));
+    }
+    assert_eq!(summary(one.interval(5, 1, line(-0.3))), (4, 5, 0, 0));
+    assert_eq!(one.0.declare(1, -300).unwrap_err().number(), 11);
+    assert_eq!(one.0.declare(1, 0).unwrap_err().number(), 22);
+    assert_eq!(one.0.look(1), Ok(Look { status: 4, small: 0, large: 0, level: 0 }));
 }
 
 #[test]

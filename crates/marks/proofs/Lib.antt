@@ -4,3 +4,4 @@ pub mod Held
 pub mod Thresholds
 pub mod Rows
 pub mod SemiScheduled
+pub mod Levels

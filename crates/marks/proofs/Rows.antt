@@ -3,14 +3,16 @@ use mathlib.Core.Path.{_≡_, refl}
 use mathlib.Core.Bool.{false}
 use Prim.Native.Nat.{ℕ}
 use lib.IntN.{ℤ, pos, negsuc}
+use Rattle.signed.specs.Floors.{floored}
 use Rattle.telemetry.specs.Lines.{isSemiScheduled, powerOf}
+use Rattle.telemetry.specs.Ranges.{isUnidirectional}
 use Rattle.telemetry.specs.declared.Fields.{Fields}
 use Rattle.telemetry.specs.declared.Reading.the-variants.{Good}
 use Rattle.telemetry.proofs.Rows.{rows}
 use Rattle.marks.specs.Triggers.{directionOf, rateOf, unitCapability, triggerOf}
-use Rattle.marks.specs.Errors.{errorOf, countedOf, exceeds}
+use Rattle.marks.specs.Errors.{errorOf, exceeds}
 use Rattle.marks.specs.Assessments.{kilowattsIn, isMissing, isDoubtful, isKnown, markOf, judged, upOf, downOf}
-use Rattle.marks.specs.Assessments.{unitBasis, knownAssessment, readableAssessment, unitAssessment}
+use Rattle.marks.specs.Assessments.{isCapped, unitBasis, knownAssessment, readableAssessment, unitAssessment}
 use Rattle.marks.specs.Table.{Triggers, Assessed, Table, keptRow}
 use Rattle.marks.specs.declared.Basis.{Basis}
 use Rattle.marks.specs.declared.Mark.{Mark}
@@ -30,7 +32,8 @@ basis kind power availability rate =
       availability = availability;
       rate = rate;
       doubtful = false;
-      capped = false;
+      capped = isCapped kind false;
+      unidirectional = isUnidirectional kind;
     }
 
 -- a row by its error, which computes from the kind and the power
@@ -38,11 +41,11 @@ row : (kind : ℕ) (power : ℤ) (mark : Mark) (error : ℤ) → isSemiScheduled
     → ((availability rate : ℕ) → errorOf (basis kind power availability rate) ≡ error)
     → markOf error 600000 600000 false ≡ mark
     → Assessed kind power mark error
-unfolding unitAssessment readableAssessment knownAssessment isKnown isMissing judged countedOf unitBasis kilowattsIn isDoubtful
+unfolding unitAssessment readableAssessment knownAssessment isKnown isMissing judged floored unitBasis kilowattsIn isDoubtful
 row kind power mark error k e m f q p t =
     let rate = rateOf (directionOf (f .target) power) (unitCapability f) in
     let s : Triggers (f .availability) rate 600000 600000 = rw (good f q, p) at t in
-    rw (good f q, k, p, e (f .availability) rate, s .0, s .1) (m, refl)
+    rw (good f q, p, e (f .availability) rate, k, s .0, s .1) (m, refl)
 
 pub table : Table
 unfolding triggerOf errorOf exceeds markOf

@@ -6,9 +6,10 @@ use native.Mathlib.Omega.{arith}
 use borrow.Author.Tests.{le-ltb}
 use lib.IntN.{pos}
 use lib.Signed.{ltZ}
+use Rattle.signed.specs.Floors.{floored}
 use Rattle.telemetry.specs.Lines.{isSemiScheduled, powerOf}
 use Rattle.telemetry.specs.declared.Fields.{Fields}
-use Rattle.marks.specs.Errors.{errorOf, countedOf, exceeds}
+use Rattle.marks.specs.Errors.{errorOf, exceeds}
 use Rattle.marks.specs.Assessments.{isKnown, markOf, judged, without, unitBasis, knownAssessment, readableAssessment}
 use Rattle.marks.specs.declared.Kept.{Kept}
 use Rattle.marks.specs.declared.Mark.the-variants.{Off, Blank, Clear}
@@ -58,7 +59,7 @@ module _ (f : Fields) (k : Kept) where
 
   -- "With a kept flag of 1 only a positive error counts": save for a negative error it is assessed as kind 1 is
   pub capped-as-generating : k .capped ≡ true → ltZ (assessed 1 .error) (pos 0) ≡ false → assessed 4 ≡ assessed 1
-  unfolding readableAssessment knownAssessment judged countedOf unitBasis errorOf
+  unfolding readableAssessment knownAssessment judged floored unitBasis errorOf
   capped-as-generating flag positive = go (isKnown f k) positive
     where
       go : (known : Bool) → ltZ (either known 1 .error) (pos 0) ≡ false → either known 4 ≡ either known 1
@@ -68,7 +69,7 @@ module _ (f : Fields) (k : Kept) where
   -- "a negative one is reported and marked CLEAR", with its trigger and whatever the quality
   pub capped-below : k .capped ≡ true → ltZ (assessed 1 .error) (pos 0) ≡ true
       → (assessed 4 .mark ≡ Clear) × (assessed 4 .error ≡ assessed 1 .error) × (assessed 4 .trigger ≡ assessed 1 .trigger)
-  unfolding readableAssessment knownAssessment judged countedOf unitBasis errorOf
+  unfolding readableAssessment knownAssessment judged floored unitBasis errorOf
   capped-below flag negative = go (isKnown f k) negative
     where
       go : (known : Bool) → ltZ (either known 1 .error) (pos 0) ≡ true

@@ -1,6 +1,6 @@
 -- How large the numbers of lines, sums, bases and errors are. Assumes nothing.
 use mathlib.Core.Path.{_≡_, refl}
-use mathlib.Core.Bool.{Bool, true, false, cond, not, _&&_}
+use mathlib.Core.Bool.{Bool, true, false, cond, not}
 use mathlib.Core.List.{List}
 use Prim.Native.Nat.{ℕ, _+_, _≤_, max}
 use native.Mathlib.Omega.{arith}
@@ -20,7 +20,7 @@ use Rattle.telemetry.proofs.Floats.{kilowatts-size}
 use Rattle.telemetry.proofs.Clauses.{target-small, availability-small, raise-small, lower-small}
 use Rattle.marks.specs.Triggers.{directionOf, opposite, rateOf, capabilityOf, unitCapability, addCapability}
 use Rattle.marks.specs.KeptLines.{nothingKept, keptFrom, keptBounded}
-use Rattle.marks.specs.Errors.{overOf, underOf, errorOf, countedOf}
+use Rattle.marks.specs.Errors.{overOf, underOf, errorOf}
 use Rattle.marks.specs.Assessments.{kilowattsIn, unitBasis}
 use Rattle.marks.specs.Aggregates.{isLoad, addSigned, addPresent, addKept, addReadable, addUnreadable, addLine, addMember}
 use Rattle.marks.specs.Aggregates.{noSums, wayOf, aggregateBasis}
@@ -156,7 +156,3 @@ error-size b s =
       size-minus lowest (b .power),
       size-minus (b .target) (b .down),
     )
-
-pub counted-size : (capped : Bool) (error : ℤ) → natAbs (countedOf capped error) ≤ natAbs error
-unfolding countedOf
-counted-size capped error = omega (arith, either-size (capped && ltZ error (pos 0)) (pos 0) error)

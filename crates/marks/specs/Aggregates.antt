@@ -111,7 +111,7 @@ abbrev pub wayOf : Sums → Direction
 wayOf s = directionOf (s .present .target) (s .present .power)
 
 -- "MWO and ROC are each the greater of two sums, one over kinds 1 and 3, one over kind 2". "Kind 4 stands in no chain for now"
--- (2026-01), so no cap holds
+-- (2026-01), so no cap holds; aggregates "keep the signed value" as their level (2026-02)
 unfoldable pub aggregateBasis : Sums → Basis
 aggregateBasis s =
     record {
@@ -123,6 +123,7 @@ aggregateBasis s =
       rate = max (rateOf (wayOf s) (s .supply)) (rateOf (opposite (wayOf s)) (s .loads));
       doubtful = s .flags .doubtful;
       capped = false;
+      unidirectional = false;
     }
 
 -- "a member unreadable → BLANK; all conformance modes 0 → OFF", then "quality 2, or nothing kept, for .. any member → BLANK"

@@ -1,10 +1,11 @@
--- The assessment of a unit: mark, error, small trigger and power (01, "Triggers and errors" and "Marks and runs"; 02, 2026-01).
+-- The assessment of a unit: mark, error, small trigger and level (01, "Triggers and errors" and "Marks and runs"; 02, 2026-01 and 2026-02).
 use mathlib.Core.Bool.{Bool, true, false, cond, not, _&&_}
 use Prim.Native.Nat.{ℕ}
 use lib.Dec.{eqb}
 use lib.IntN.{ℤ, pos}
 use Rattle.telemetry.specs.Kilowatts.{kilowattsOf}
 use Rattle.telemetry.specs.Lines.{isSemiScheduled, powerOf}
+use Rattle.telemetry.specs.Ranges.{isUnidirectional}
 use Rattle.telemetry.specs.declared.Fields.{Fields}
 use Rattle.telemetry.specs.declared.Line.{Line}
 use Rattle.telemetry.specs.declared.Line.the-variants.{Readable, Unreadable}
@@ -12,6 +13,7 @@ use Rattle.telemetry.specs.declared.Reading.{Reading}
 use Rattle.telemetry.specs.declared.Reading.the-variants.{Good, Substituted, Missing}
 use Rattle.marks.specs.Triggers.{directionOf, rateOf, unitCapability, smallTrigger, largeTrigger}
 use Rattle.marks.specs.Errors.{errorOf, countedOf, exceeds}
+use Rattle.marks.specs.Levels.{levelOf}
 use Rattle.marks.specs.declared.Kept.{Kept}
 use Rattle.marks.specs.declared.Sight.{Sight}
 use Rattle.marks.specs.declared.Mark.{Mark}
@@ -48,7 +50,7 @@ isKnown f k = not (isMissing (powerOf f)) && k .have
 unfoldable pub markOf : ℤ → ℕ → ℕ → Bool → Mark
 markOf error small large doubtful = cond (exceeds error small) (cond doubtful Doubt (cond (exceeds error large) Large Small)) Clear
 
--- the mark goes by the error that counts, and the whole error is reported
+-- the mark goes by the error that counts, and the whole error is reported; the level is the one of a declaration, should this mark bring it
 unfoldable pub judged : Basis → Assessment
 judged b =
     record {
@@ -57,12 +59,12 @@ judged b =
           (b .doubtful);
       error = errorOf b;
       trigger = smallTrigger (b .availability) (b .rate);
-      power = b .power;
+      level = levelOf (b .unidirectional) (b .power);
     }
 
 -- "Error and trigger are 0 for OFF and BLANK"
 abbrev pub without : Mark → Assessment
-without mark = record { mark = mark; error = pos 0; trigger = 0; power = pos 0 }
+without mark = record { mark = mark; error = pos 0; trigger = 0; level = pos 0 }
 
 -- ---- a unit
 
@@ -94,6 +96,7 @@ unitBasis kind f k =
       rate = rateOf (directionOf (f .target) power) (unitCapability f);
       doubtful = isDoubtful (powerOf f);
       capped = isCapped kind (k .capped);
+      unidirectional = isUnidirectional kind;
     }
 
 -- a kept flag of 0 is "tested after the rule for nothing kept"

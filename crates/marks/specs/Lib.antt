@@ -2,6 +2,7 @@
 pub mod Triggers
 pub mod KeptLines
 pub mod Errors
+pub mod Levels
 pub mod Assessments
 pub mod Aggregates
 pub mod Bounds

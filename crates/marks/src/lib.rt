@@ -1,5 +1,5 @@
-// Triggers, errors and marks of units and aggregates (01, "Triggers and errors" and the list of marks under "Marks and runs"; 02,
-// 2026-01).
+// Triggers, errors, marks and levels of units and aggregates (01, "Triggers and errors" and the list of marks under "Marks and runs"; 02,
+// 2026-01 and 2026-02).
 // Power is in kW, ramp rates in kW per minute, triggers in hundredths of a kW.
 ghost use mathlib.Core.Path.{_≡_};
 ghost use mathlib.Core.Bool.{true};
@@ -8,7 +8,7 @@ ghost use lib.IntN.{natAbs};
 ghost use lib.ListN.{length};
 ghost use Rattle.telemetry.specs.Kilowatts.{kilowattsOf};
 ghost use Rattle.marks.specs.Triggers.{directionOf, opposite, rateOf, capabilityOf, unitCapability, addCapability, triggerOf};
-ghost use Rattle.marks.specs.Errors.{overOf, underOf, errorOf, countedOf, exceeds};
+ghost use Rattle.marks.specs.Errors.{overOf, underOf, errorOf, exceeds};
 ghost use Rattle.marks.specs.KeptLines.{nothingKept, keptBounded, keptFrom};
 ghost use Rattle.marks.specs.Assessments.{kilowattsIn, isMissing, isDoubtful, isKnown, markOf, judged, without, upOf, downOf};
 ghost use Rattle.marks.specs.Assessments.{isCapped, isUncapped, unitBasis, knownAssessment, readableAssessment, unitAssessment};
@@ -188,15 +188,16 @@ pub enum Mark {
     Large,
 }
 
-// The mark, the signed error, the small trigger, and the power (MW of a unit, the signed sum of an aggregate).
+// The mark, the signed error, the small trigger, and the level at which the mark would declare the point.
 pub struct Assessment {
     pub mark: Mark,
     pub error: i32,
     pub trigger: u32,
-    pub power: i32,
+    pub level: i32,
 }
 
-// What a point that is neither Off nor Blank is assessed from. Where it is capped, only a positive error counts.
+// What a point that is neither Off nor Blank is assessed from. Where it is capped, only a positive error counts; where it is a unit that goes
+// one way, its level is not negative.
 pub struct Basis {
     pub power: i64,
     pub target: i64,
@@ -206,6 +207,7 @@ pub struct Basis {
     pub rate: u64,
     pub doubtful: bool,
     pub capped: bool,
+    pub unidirectional: bool,
 }
 
 // A trigger: at least 6 MW, else the lesser of a share of the availability, in per cent, and some hundredths of a minute's ramping.
@@ -248,13 +250,6 @@ fn error_of(b: Basis) -> i64
     0
 }
 
-// The error that the mark goes by.
-fn counted(capped: bool, error: i64) -> i64
-    ensures { λ r. ⌜ r ≡ countedOf capped error ⌝ }
-{
-    if capped & (error < 0) { 0 } else { error }
-}
-
 fn over_trigger(error: i64, trigger: u64) -> bool
     requires { ⌜ natAbs error < 2 ^ 40 ⌝ }
     ensures { λ r. ⌜ r ≡ exceeds error trigger ⌝ }
@@ -285,14 +280,15 @@ fn judge(b: Basis) -> Assessment
     let error = error_of(b);
     let small = trigger_of(3, 200, b.availability, b.rate);
     let large = trigger_of(5, 400, b.availability, b.rate);
-    let counting = counted(b.capped, error);
-    let mark = mark_of(counting, small, large, b.doubtful);
+    let counted = signed::floored(b.capped, error);
+    let mark = mark_of(counted, small, large, b.doubtful);
     let trigger = small as u32;
+    let level = signed::floored(b.unidirectional, b.power);
     Assessment {
         mark,
         error: signed::narrowed(error),
         trigger,
-        power: signed::narrowed(b.power),
+        level: signed::narrowed(level),
     }
 }
 
@@ -303,7 +299,7 @@ fn unassessed(mark: Mark) -> Assessment
         mark,
         error: 0,
         trigger: 0,
-        power: 0,
+        level: 0,
     }
 }
 
@@ -414,6 +410,7 @@ fn unit_basis(kind: u8, f: Fields, k: Kept) -> Basis
         rate: unit_rate(f, power),
         doubtful: is_doubtful(reading),
         capped: is_capped(kind, k.capped),
+        unidirectional: telemetry::is_unidirectional(kind),
     }
 }
 
@@ -645,6 +642,7 @@ impl Sums {
             rate: greater(supply.rate(direction), loads.rate(direction.turned())),
             doubtful: flags.doubtful,
             capped: false,
+            unidirectional: false,
         }
     }
 

@@ -11,6 +11,7 @@ pub mod Locality
 pub mod Returns
 pub mod Soundness
 pub mod Groups
+pub mod Levels
 pub mod Runs
 pub mod Tracks
 pub mod Declarations

@@ -7,7 +7,7 @@ use borrow.Author.Tests.{le-leb, lt-leb, ltb-true, ltb-false}
 use lib.Dec.{leb, ltb}
 use Rattle.register.specs.declared.Plant.{Plant}
 use Rattle.points.specs.Points.{normal}
-use Rattle.monitor.specs.Plants.{total, place, named}
+use Rattle.monitor.specs.Plants.{total, place, named, isUnidirectionalAt}
 use Rattle.monitor.specs.Monitors.{pointAt, soundOf}
 use Rattle.monitor.specs.Operators.{Operator, look, permit, change, locateOf, operatorVerdict, stored, operatedOf, operatedAt, lookedOf, lookedAt}
 use Rattle.monitor.specs.declared.Monitor.{Monitor}
@@ -46,6 +46,10 @@ module _ (m : Monitor) (p : ℕ) where
       let q = positive p (b .1) in
       (q .0, omega (arith, q .1, units-small m (b .0), aggregates-small m (b .0)), q .2)
 
+  -- its kinds can be looked up
+  pub located-units : locateOf m p ≡ Accept → m .plant .units ≤ 64
+  located-units e = units-small m (both-pass e .0)
+
 -- ---- what a call does, by where it points
 
 -- a refusal after a test stays one, whatever stands behind the test
@@ -60,11 +64,11 @@ module _ (m : Monitor) (p : ℕ) (v : Verdict) (is : v ≡ locateOf m p) where
       let own = still-refused (named (m .plant) p) Accept _ 10 k (λ a. absurd (let z : _≡_ {A = ℕ} 0 1 = cc in omega arith)) in
       still-refused (soundOf m) _ _ 20 k own (sym is ∙ e)
 
-  judged-accepted : (op : Operator) (i : ℕ) → v ≡ Accept → i ≡ p - 1 → operatorVerdict op m p ≡ permit op (pointAt m i)
+  judged-accepted : (op : Operator) (i : ℕ) → v ≡ Accept → i ≡ p - 1 → operatorVerdict op m p ≡ permit (isUnidirectionalAt (m .plant) i) op (pointAt m i)
   unfolding operatorVerdict
   judged-accepted op i e f =
       let b = both-pass m p (sym is ∙ e) in
-      rw (b .0, b .1) (ap (λ (j : ℕ). permit op (pointAt m j)) (located m p (sym is ∙ e) .2 ∙ sym f))
+      rw (b .0, b .1) (ap (λ (j : ℕ). permit (isUnidirectionalAt (m .plant) j) op (pointAt m j)) (located m p (sym is ∙ e) .2 ∙ sym f))
 
   pub refused-call : (op : Operator) (k : ℕ) → v ≡ Refuse k → _≡_ {A = Stepped} (record { verdict = v; monitor = m }) (operatedOf op m p)
   unfolding operatedOf
@@ -88,7 +92,7 @@ module _ (m : Monitor) (p : ℕ) (v : Verdict) (is : v ≡ locateOf m p) where
 
 -- ---- at a point's record
 
-module _ (op : Operator) (m : Monitor) (i : ℕ) (v : Verdict) (is : v ≡ permit op (pointAt m i)) where
+module _ (op : Operator) (m : Monitor) (i : ℕ) (v : Verdict) (is : v ≡ permit (isUnidirectionalAt (m .plant) i) op (pointAt m i)) where
   pub accepted-at : (n : Monitor) → v ≡ Accept → n ≡ stored m i (change op (pointAt m i))
       → _≡_ {A = Stepped} (record { verdict = v; monitor = n }) (operatedAt op m i)
   unfolding operatedAt

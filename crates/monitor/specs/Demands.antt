@@ -11,9 +11,11 @@ use Rattle.register.specs.Chains.{allMembers}
 use Rattle.register.specs.Registers.{answerNumber, answerVisits, registeredOf, registerRefusal}
 use Rattle.register.specs.declared.Answer.the-variants.{Accepted}
 use Rattle.register.specs.declared.Plant.{Plant}
+use Rattle.marks.specs.Levels.{isDispatchable}
 use Rattle.marks.specs.declared.Mark.the-variants.{Small, Large}
-use Rattle.monitor.specs.Plants.{total, place, named, Group, unitIn, pointIn}
+use Rattle.monitor.specs.Plants.{total, place, named, isUnidirectionalAt, Group, unitIn, pointIn}
 use Rattle.monitor.specs.Assessments.{headerOf, modeOf}
+use Rattle.monitor.specs.Monitors.{pointAt}
 use Rattle.monitor.specs.Intervals.{loadOf}
 use Rattle.monitor.specs.Operators.{Operator, declare, reinstate, look}
 use Rattle.monitor.specs.Calls.{Call, interval, operate, Outcome, refusal, reported, done, looked, answer, after, run}
@@ -112,10 +114,16 @@ pub record Demand3 (plant : Plant) (m : Monitor) : Type 0 where
   -- 3. bridge: every acceptance, refusal number, report and look is the one that the history gives
   pub bridge : (calls : List Call) → run m calls ≡ outcomes (extend plant) (foretold plant) begin calls
 
--- What load promises: its result, its number and visits in 01, and demand 3 of the state that an accepted one returns. The visits "equal
--- the number of units in chains" of the plant that the bytes give, which has none where they are refused.
+-- "Never a level that cannot be dispatched" (02, 2026-02), whoever declared the point: looks and reports show the level of its record
+pub record Dispatchable (plant : Plant) (m : Monitor) : Type 0 where
+  pub level : (i : ℕ) → isDispatchable (isUnidirectionalAt plant i) (pointAt m i .level) ≡ true
+
+-- What load promises: its result, its number and visits in 01, and of the state that an accepted one returns demand 3, and that no list of calls
+-- leads to a level that cannot be dispatched. The visits "equal the number of units in chains" of the plant that the bytes give, which has none
+-- where they are refused.
 pub record Loads (old : Monitor) (bytes : List ℕ) (r : Loaded) : Type 0 where
   pub result : r ≡ loadOf old bytes
   pub number : answerNumber (r .answer) ≡ registerRefusal bytes
   pub visits : answerVisits (r .answer) ≡ length (allMembers (registeredOf bytes .plant))
   pub demand3 : (visits : ℕ) → r .answer ≡ Accepted visits → Demand3 (r .monitor .plant) (r .monitor)
+  pub levels : (visits : ℕ) → r .answer ≡ Accepted visits → (calls : List Call) → Dispatchable (r .monitor .plant) (after (r .monitor) calls)

@@ -14,7 +14,7 @@ use Rattle.marks.specs.declared.Assessment.{Assessment}
 use Rattle.points.specs.Points.{declaredAt, reaches, statusOf, smallAfter, largeAfter, declares}
 use Rattle.points.specs.Records.{recordOf}
 use Rattle.points.specs.declared.Point.{Point}
-use Rattle.monitor.specs.Plants.{total, place, named}
+use Rattle.monitor.specs.Plants.{total, place, named, isUnidirectionalAt}
 use Rattle.monitor.specs.Assessments.{headerOf, numberOf, isAutomatic, ruleOf, lineAt, isFresh, assessmentAt}
 use Rattle.monitor.specs.Intervals.{decide, judgeInterval}
 use Rattle.monitor.specs.Operators.{Operator, declare, reinstate, look, allowedLevel}
@@ -69,7 +69,7 @@ marked plant automatic a q =
     record {
       small = small;
       large = large;
-      standing = standingAfter (declares (ruleOf plant automatic) (a .mark) small large) (a .power) (q .standing);
+      standing = standingAfter (declares (ruleOf plant automatic) (a .mark) small large) (a .level) (q .standing);
     }
 
 -- "An accepted one marks every point from its lines and the lines kept before it"
@@ -82,15 +82,15 @@ assessmentThen plant h buffer i =
 -- "Declare is accepted when 10 and 11 do not apply, demand 3's rule over the calls before it finds the point not declared, and its
 -- small run is Ns or more or its large run Nl or more. Reinstate is accepted when 10 does not apply and that rule finds the point
 -- declared"
-unfoldable pub permitted : Plant → Operator → Past → Verdict
-permitted plant (declare level) q =
-    cond (allowedLevel level)
+unfoldable pub permitted : Plant → Bool → Operator → Past → Verdict
+permitted plant unidirectional (declare level) q =
+    cond (allowedLevel unidirectional level)
     (cond (not (isDeclared (q .standing)) && reaches (plant .small .«not_responding») (plant .large .«not_responding») (q .small) (q .large))
     Accept
     (Refuse 22))
     (Refuse 11)
-permitted plant reinstate q = cond (isDeclared (q .standing)) Accept (Refuse 23)
-permitted plant look q = Accept
+permitted plant unidirectional reinstate q = cond (isDeclared (q .standing)) Accept (Refuse 23)
+permitted plant unidirectional look q = Accept
 
 -- reinstatement "sets both runs to 0"
 abbrev pub changed : Operator → Past → Past
@@ -104,7 +104,8 @@ changed look q = q
 abbrev pub verdict : Plant → History → Call → Verdict
 verdict plant h (interval buffer report) =
     judgeInterval plant (h .started) (h .last) (headerOf buffer) (length buffer) (length report)
-verdict plant h (operate op p) = cond (named plant p) (permitted plant op (h .points (place p))) (Refuse 10)
+verdict plant h (operate op p) =
+    cond (named plant p) (permitted plant (isUnidirectionalAt plant (place p)) op (h .points (place p))) (Refuse 10)
 
 abbrev pub effect : Plant → History → Call → History
 effect plant h (interval buffer report) =

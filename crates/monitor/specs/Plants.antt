@@ -4,6 +4,8 @@ use mathlib.Core.Bool.{Bool, false, cond, _&&_, _||_}
 use mathlib.Core.List.{List, [], _∷_, map}
 use Prim.Native.Nat.{ℕ, zero, suc, _+_, _-_}
 use lib.Dec.{eqb, ltb}
+use lib.ListN.{getD}
+use Rattle.telemetry.specs.Ranges.{isUnidirectional}
 use Rattle.register.specs.Chains.{membersOf}
 use Rattle.register.specs.declared.Plant.{Plant}
 
@@ -26,6 +28,10 @@ placesOf plant j = map place (membersOf plant j)
 -- the places of the units whose lines the point at a place is assessed from
 unfoldable pub unitsOf : Plant → ℕ → List ℕ
 unitsOf plant i = cond (ltb i (plant .units)) (i ∷ []) (placesOf plant (i - plant .units))
+
+-- whether the point at a place is that of a unit of kind 1, 2 or 4, in a chain or in none; an aggregate's is not
+unfoldable pub isUnidirectionalAt : Plant → ℕ → Bool
+isUnidirectionalAt plant i = ltb i (plant .units) && isUnidirectional (getD (plant .kinds) i 0)
 
 abbrev pub elem : ℕ → List ℕ → Bool
 elem x [] = false

@@ -4,12 +4,14 @@ use super::Monitor;
 use super::Stepped;
 use super::Verdict;
 use points::Point;
+use register::Plant;
 ghost use mathlib.Core.Path.{_≡_};
 ghost use mathlib.Core.Bool.{_&&_};
 ghost use Prim.Native.Nat.{_+_, _≤_, _<_};
 ghost use lib.Dec.{leb};
+ghost use Rattle.monitor.specs.Plants.{isUnidirectionalAt};
 ghost use Rattle.monitor.specs.Intervals.{Answered};
-ghost use Rattle.monitor.specs.Operators.{declare, reinstate, operatorRefusal, permitDeclare, permitReinstate, locateOf, stored};
+ghost use Rattle.monitor.specs.Operators.{declare, reinstate, operatorRefusal, allowedLevel, permitDeclare, permitReinstate, locateOf, stored};
 ghost use Rattle.monitor.specs.Operators.{declareAt, reinstateAt, lookedAt, declareOf, reinstateOf, Looks};
 
 // 10: a point from 1 to n+m.
@@ -34,11 +36,30 @@ fn locate(m: Monitor, point: u32) -> Verdict
     Verdict::Accept
 }
 
-// 11, then 22.
-fn permit_declare(level: i32, q: Point) -> Verdict
-    ensures { λ r. ⌜ r ≡ permitDeclare level q ⌝ }
+// Whether the point at place i is that of a unit of kind 1, 2 or 4.
+fn is_unidirectional_at(plant: Plant, i: usize) -> bool
+    requires { ⌜ plant .units ≤ 64 ⌝ }
+    ensures { λ r. ⌜ r ≡ isUnidirectionalAt plant i ⌝ }
 {
-    if signed::size(signed::widened(level)) <= 128000000 {
+    if i < plant.units {
+        return telemetry::is_unidirectional(plant.kinds[i]);
+    }
+    false
+}
+
+// 11: within ±128,000,000, and not negative where that cannot be dispatched.
+fn level_allowed(unidirectional: bool, level: i32) -> bool
+    ensures { λ r. ⌜ r ≡ allowedLevel unidirectional level ⌝ }
+{
+    let bounded = signed::size(signed::widened(level)) <= 128000000;
+    bounded & !(unidirectional & (level < 0))
+}
+
+// 11, then 22.
+fn permit_declare(unidirectional: bool, level: i32, q: Point) -> Verdict
+    ensures { λ r. ⌜ r ≡ permitDeclare unidirectional level q ⌝ }
+{
+    if level_allowed(unidirectional, level) {
         if (q.status == 2) | (q.status == 3) {
             return Verdict::Accept;
         }
@@ -67,11 +88,11 @@ fn store(m: Monitor, i: usize, q: Point) -> Monitor
 }
 
 fn declare_at(m: Monitor, i: usize, level: i32) -> Stepped
-    requires { ⌜ i < 80 ⌝ }
+    requires { ⌜ (i < 80) × (m .plant .units ≤ 64) ⌝ }
     ensures { λ r. ⌜ r ≡ declareAt m i level ⌝ }
 {
     let q = m.points[i];
-    let verdict = permit_declare(level, q);
+    let verdict = permit_declare(is_unidirectional_at(m.plant, i), level, q);
     match verdict {
         Verdict::Accept => Stepped {
             verdict,

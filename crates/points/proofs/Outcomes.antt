@@ -42,9 +42,9 @@ module _ (rule : Rule) (small large : ℕ) (pending : Bool) (p : pending ≡ rea
 module _ (rule : Rule) (a : Assessment) (p r : Point) where
   module _ (declared : Bool) (d : declared ≡ declares rule (a .mark) (p .small) (p .large)) where
     -- the level, as a local holds it
-    pub settled-declared : declared ≡ true → mag (a .power) < 2 ^ 31 → r ≡ declaredAt (toZ w32 (ofZ w32 (a .power))) → r ≡ settled rule a p
+    pub settled-declared : declared ≡ true → mag (a .level) < 2 ^ 31 → r ≡ declaredAt (toZ w32 (ofZ w32 (a .level))) → r ≡ settled rule a p
     unfolding settled
-    settled-declared t h q = rw (sym d ∙ t, ← held32 (a .power) h) q
+    settled-declared t h q = rw (sym d ∙ t, ← held32 (a .level) h) q
 
     pub settled-graded : declared ≡ false → r ≡ graded rule p → r ≡ settled rule a p
     unfolding settled

@@ -86,9 +86,9 @@ unfoldable pub declares : Rule → Mark → ℕ → ℕ → Bool
 declares rule mark small large =
     isCounted mark && (rule .automatic && reaches (rule .small .declaration) (rule .large .declaration) small large)
 
--- "its constraint level is its MW then"
+-- "declares the point; its constraint level is" the one that comes with the mark, since that goes by kind
 unfoldable pub settled : Rule → Assessment → Point → Point
-settled rule a p = cond (declares rule (a .mark) (p .small) (p .large)) (declaredAt (a .power)) (graded rule p)
+settled rule a p = cond (declares rule (a .mark) (p .small) (p .large)) (declaredAt (a .level)) (graded rule p)
 
 -- "A declared point is not declared again: its level stands until it is reinstated"
 unfoldable pub markedBy : Rule → Assessment → Point → Point

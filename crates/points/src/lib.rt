@@ -134,7 +134,7 @@ impl Point {
     {
         let mark = a.mark;
         if self.declared_by(rule, mark) {
-            return self.declare(a.power);
+            return self.declare(a.level);
         }
         self.grade(rule)
     }

@@ -4,6 +4,7 @@ use mathlib.Core.Path.{_≡_, refl}
 use mathlib.Core.Bool.{Bool, true, false, cond, not, _&&_}
 use mathlib.Core.List.{List, map}
 use Prim.Native.Nat.{ℕ, zero, suc, _+_, _-_, _*_, _^_, _≤_, _<_}
+use native.Mathlib.Nat.{le-trans}
 use native.Mathlib.Omega.{arith}
 use borrow.Author.Tests.{ltb-true, ltb-false}
 use lib.Dec.{eqb, ltb, lit≤, lit<}
@@ -12,6 +13,7 @@ use lib.ListN.{getD}
 use mir.Syntax.{w32}
 use mir.Val.{SFits}
 use Rattle.signed.proofs.Sizes.{size-fits}
+use Rattle.signed.proofs.Floors.{floored-size}
 use Rattle.telemetry.specs.declared.Line.{Line}
 use Rattle.telemetry.specs.declared.Line.the-variants.{Readable, Unreadable}
 use Rattle.register.specs.Chains.{chain, membersOf}
@@ -27,8 +29,8 @@ use Rattle.marks.specs.declared.Sight.{Sight}
 use Rattle.marks.specs.declared.Sums.{Sums}
 use Rattle.marks.proofs.Small.{unit-small, wider, member-more, no-sums-small, aggregate-small, error-size}
 use Rattle.marks.proofs.Thresholds.{small-bounded}
-use Rattle.points.specs.Points.{declaredAt, counted, graded, declares, settled, markedBy}
 use Rattle.points.specs.declared.Point.{Point}
+use Rattle.points.proofs.Levels.{level-after}
 use Rattle.monitor.specs.Plants.{total, placesOf}
 use Rattle.monitor.specs.Assessments.{headerOf, isAutomatic, ruleOf, sightAt, assessmentAt}
 use Rattle.monitor.specs.Monitors.{keptAt, pointAt, soundOf}
@@ -45,20 +47,24 @@ pub record Held (a : Assessment) (p : Point) : Type 0 where
 
 -- ---- how large an assessment's numbers are
 
--- an error is at most three sums of 65 members, a trigger 3 per cent of one in hundredths, a power one
+-- an error is at most three sums of 65 members, a trigger 3 per cent of one in hundredths, a level one
 record SmallAssessment (a : Assessment) : Type 0 where
   error : natAbs (a .error) ≤ 390000000
   trigger : a .trigger ≤ 390000000
-  power : natAbs (a .power) ≤ 130000000
+  level : natAbs (a .level) ≤ 130000000
 
 -- OFF and BLANK, and the others
 without-small : (mark : Mark) → SmallAssessment (without mark)
-without-small mark = record { error = lit≤ tt; trigger = lit≤ tt; power = lit≤ tt }
+without-small mark = record { error = lit≤ tt; trigger = lit≤ tt; level = lit≤ tt }
 
 judged-small : (b : Basis) → SmallBasis b → SmallAssessment (judged b)
 unfolding judged
 judged-small b s =
-    record { error = error-size b s; trigger = small-bounded (b .availability) (b .rate) (s .availability); power = s .power }
+    record {
+      error = error-size b s;
+      trigger = small-bounded (b .availability) (b .rate) (s .availability);
+      level = le-trans (floored-size (b .unidirectional) (b .power)) (s .power);
+    }
 
 either : (b : Bool) {x y : Assessment} → SmallAssessment x → SmallAssessment y → SmallAssessment (cond b x y)
 either true g h = g
@@ -117,22 +123,12 @@ module _ (m : Monitor) (sound : soundOf m ≡ true) (buffer : List ℕ) where
           sums-assessed (addMembers noSums (map sight (placesOf (m .plant) j)))
           (chain-small (m .plant .next) (m .plant .units) sight (next-in m sound) seen 65 (getD (m .plant .heads) j 0) noSums head no-sums-small)
 
-  -- a level is the one that was stored, the power or 0
   level-in : (i : ℕ) → i < total (m .plant) → SFits w32 (pointAt m i .level) → SFits w32 (pointAfter m buffer i .level)
-  unfolding pointAfter markedBy settled graded
+  unfolding pointAfter
   level-in i l stored =
-      let rule = ruleOf (m .plant) (isAutomatic (headerOf buffer)) in
-      let a = assessmentIn m buffer i in
-      let p = pointAt m i in
-      let q = counted (a .mark) p in
-      let power : SFits w32 (a .power) = size-fits w32 (a .power) (small-in i l .power) (lit< tt) in
-      let none : SFits w32 (pos 0) = size-fits w32 (pos 0) {k = 0} (lit≤ tt) (lit< tt) in
-      choice (eqb (p .status) 4) p (settled rule a q) stored
-      (choice (declares rule (a .mark) (q .small) (q .large)) (declaredAt (a .power)) (graded rule q) power none)
-    where
-      choice : (b : Bool) (p q : Point) → SFits w32 (p .level) → SFits w32 (q .level) → SFits w32 (cond b p q .level)
-      choice true p q g h = g
-      choice false p q g h = h
+      level-after (SFits w32) (ruleOf (m .plant) (isAutomatic (headerOf buffer))) (assessmentIn m buffer i) (pointAt m i) stored
+      (size-fits w32 (assessmentIn m buffer i .level) (small-in i l .level) (lit< tt))
+      (size-fits w32 (pos 0) {k = 0} (lit≤ tt) (lit< tt))
 
   -- so an interval's report holds every number of a point whose stored level is an i32, as the code's levels all are
   pub held-in : (i : ℕ) → i < total (m .plant) → SFits w32 (pointAt m i .level) → Held (assessmentIn m buffer i) (pointAfter m buffer i)

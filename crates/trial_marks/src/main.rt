@@ -30,7 +30,7 @@ fn put_assessment(out: &mut [u8], at: usize, a: Assessment) -> usize {
     next = put_whole(out, next, a.error);
     next = text::put_bytes(out, next, b" ");
     next = text::put_number(out, next, a.trigger as u64);
-    put_whole(out, next, a.power)
+    put_whole(out, next, a.level)
 }
 
 fn print_case(label: &[u8], assessment: Assessment) {
@@ -140,8 +140,17 @@ fn all(cases: &[u8]) {
     }
 }
 
-fn main() {
+// The cases of a block of standard input. No case stands in two; zeros fill a block that another follows.
+fn block() {
     let mut buffer = io::large_buffer();
     let n = io::read_full(0, &mut buffer);
     all(&buffer[..n]);
+}
+
+fn main() {
+    let mut blocks: u8 = 0;
+    while blocks < 4 {
+        block();
+        blocks += 1;
+    }
 }

@@ -1,7 +1,7 @@
 //! `statistics FIRST LAST`: what the random lists of these seeds reach; fails when something stays rare.
 
 use conformance::line::{Kind, Line, LINE};
-use conformance::monitor::{Record, HEADER, NON_CONFORMING};
+use conformance::monitor::{Record, HEADER, NON_CONFORMING, NOT_RESPONDING, PENDING};
 use conformance::replay::{Call, Calls, MAX_REPORT};
 use conformance::{random_calls, Look, Mark, Monitor, Plant, Refusal};
 use std::collections::BTreeMap;
@@ -10,6 +10,8 @@ use std::process::ExitCode;
 const MARKS: [&str; 6] = ["OFF", "BLANK", "CLEAR", "DOUBT", "SMALL", "LARGE"];
 const STATUSES: [&str; 5] = ["Normal", "Off-Target", "Not-Responding", "NC-Pending", "Non-Conforming"];
 const SEMI_SCHEDULED: &str = "semi-scheduled";
+/// Bounds of an operator's level and their neighbours.
+const LEVELS: [i32; 9] = [i32::MIN, -128_000_001, -128_000_000, -1, 0, 1, 128_000_000, 128_000_001, i32::MAX];
 /// Least count of each thing for the check to pass.
 const LEAST: u64 = 100;
 
@@ -117,6 +119,59 @@ fn count_semi_scheduled(counts: &mut Counts, bytes: &[u8; LINE], kept: Option<Li
     }
 }
 
+fn is_member(plant: &Plant, unit: usize) -> bool {
+    !plant.loners().contains(&(unit as u8))
+}
+
+/// What a point's level depends on: a unit's kind, in a chain or in none, or that it is an aggregate.
+fn place(plant: &Plant, point: usize) -> String {
+    if point >= plant.units() {
+        return "aggregate".into();
+    }
+    let chain = if is_member(plant, point) { "a chain" } else { "no chain" };
+    format!("kind {} in {chain}", plant.kind(point) as u8)
+}
+
+/// Counts the MW at which an interval declares a point; its lines are readable then.
+fn count_declared(counts: &mut Counts, plant: &Plant, point: usize, lines: &[[u8; LINE]]) {
+    let mut add = |what: &str| counts.add(format!("interval declares, {}, {what}", place(plant, point)));
+    let power =
+        |unit: usize| Line::read(&lines[unit], plant.kind(unit), is_member(plant, unit)).map_or(0, |line| line.power);
+    let declared_at: i32 = match point.checked_sub(plant.units()) {
+        None => power(point),
+        Some(aggregate) => {
+            let members = plant.members(aggregate).iter().map(|&unit| usize::from(unit));
+            if members.clone().any(|unit| power(unit) < 0 && plant.kind(unit) != Kind::Bidirectional) {
+                add("a member of kind 1 or 2 below 0");
+            }
+            members.map(|unit| if plant.kind(unit) == Kind::Load { -power(unit) } else { power(unit) }).sum()
+        }
+    };
+    match declared_at {
+        ..0 => add("MW below 0"),
+        0 => add("MW 0"),
+        1 => add("MW 1"),
+        _ => {}
+    }
+}
+
+/// Counts an operator's level, by what would have become of the call without the rule of its sign.
+fn count_level(counts: &mut Counts, place: &str, level: i32, before: Look, answer: Result<(), Refusal>) {
+    if LEVELS.contains(&level) {
+        counts.add(format!("declare {level}, {place}"));
+    }
+    let declarable = matches!(before.status, NOT_RESPONDING | PENDING);
+    match answer {
+        Ok(()) if level < 0 => counts.add(format!("declare below 0 accepted, {place}")),
+        Ok(()) if level == 0 => counts.add(format!("declare 0 accepted, {place}")),
+        Err(Refusal::Level) if (-128_000_000..=128_000_000).contains(&level) => {
+            let otherwise = if declarable { "accepted" } else { "refused 22" };
+            counts.add(format!("declare refused 11 by the sign alone, otherwise {otherwise}, {place}"));
+        }
+        _ => {}
+    }
+}
+
 fn main() -> ExitCode {
     let arguments: Vec<u64> = std::env::args().skip(1).filter_map(|text| text.parse().ok()).collect();
     let &[first, last] = &arguments[..] else {
@@ -185,6 +240,9 @@ fn main() -> ExitCode {
                         }
                         if record.status == NON_CONFORMING && before[point].status != NON_CONFORMING {
                             counts.add(format!("{class} declared by an interval"));
+                            if let Some(plant) = monitor.plant() {
+                                count_declared(&mut counts, plant, point, buffer[HEADER..].as_chunks().0);
+                            }
                         }
                         if class == SEMI_SCHEDULED {
                             let line = &buffer[HEADER..].as_chunks().0[point];
@@ -200,10 +258,18 @@ fn main() -> ExitCode {
                     }
                 }
                 Ok(Call::Declare { point, level }) => {
+                    let before = monitor.look(point);
                     let answer = monitor.declare(point, level);
                     counts.answer("declare", &answer);
                     if answer.is_ok() {
                         counts.add(format!("{} declared by an operator", class[point as usize - 1]));
+                    }
+                    match (monitor.plant(), before) {
+                        (Some(plant), Ok(before)) => {
+                            count_level(&mut counts, &place(plant, point as usize - 1), level, before, answer);
+                        }
+                        (_, Err(refusal)) if level < 0 => counts.add(format!("declare {refusal}, level below 0")),
+                        _ => {}
                     }
                 }
                 Ok(Call::Reinstate { point }) => {
@@ -269,6 +335,32 @@ fn main() -> ExitCode {
     ] {
         wanted.push(format!("{SEMI_SCHEDULED} {what}"));
     }
+    for place in [
+        "kind 1 in no chain",
+        "kind 1 in a chain",
+        "kind 2 in no chain",
+        "kind 2 in a chain",
+        "kind 3 in no chain",
+        "kind 3 in a chain",
+        "kind 4 in no chain",
+        "aggregate",
+    ] {
+        wanted.extend(LEVELS.iter().map(|level| format!("declare {level}, {place}")));
+        wanted.push(format!("declare 0 accepted, {place}"));
+        if place.starts_with("kind 3") || place == "aggregate" {
+            wanted.push(format!("declare below 0 accepted, {place}"));
+        } else {
+            wanted.push(format!("declare refused 11 by the sign alone, otherwise accepted, {place}"));
+            wanted.push(format!("declare refused 11 by the sign alone, otherwise refused 22, {place}"));
+        }
+        // Kind 4 is declared above its target alone.
+        if !place.starts_with("kind 4") {
+            wanted.extend(["below 0", "0", "1"].iter().map(|power| format!("interval declares, {place}, MW {power}")));
+        }
+    }
+    wanted.push("interval declares, aggregate, a member of kind 1 or 2 below 0".into());
+    wanted.push("declare refused 10, level below 0".into());
+    wanted.push("declare refused 20, level below 0".into());
     wanted.push("script error".into());
     wanted.push("interval jump".into());
     let rare: Vec<&String> = wanted.iter().filter(|name| counts.0.get(*name).copied().unwrap_or(0) < LEAST).collect();

@@ -12,8 +12,11 @@ start c = c .before .before .before
 abbrev power : tie.After-widened2 → tie.After-widened
 power c = c .before .before .before
 
-abbrev sides : tie.After-is-capped → tie.After-down-of
-sides c = c .before .before .before
+abbrev sides : tie.After-is-doubtful → tie.After-down-of
+sides c = c .before .before
+
+abbrev doubtful : tie.After-is-unidirectional → tie.After-is-doubtful
+doubtful c = c .before .before
 
 power-requires : tie.Need-power-requires
 power-requires c κs = search needs
@@ -45,10 +48,14 @@ is-doubtful-requires c κs = search needs
 is-capped-requires : tie.Need-is-capped-requires
 is-capped-requires c κs = search needs
 
+is-unidirectional-requires : tie.Need-is-unidirectional-requires
+is-unidirectional-requires c κs = search needs
+
 returns : tie.Need-returns
 unfolding unitBasis
 returns c =
-    let up = sides c .before in
+    let down = sides (doubtful c) in
+    let up = down .before in
     let kept = up .before in
     cc (
       result32 (power kept .before .power-in),
@@ -56,7 +63,7 @@ returns c =
       held32 (start (power kept) .args .k .target) (search needs),
       result64 (kept .widened2),
       result64 (up .up-of),
-      result64 (sides c .down-of),
+      result64 (down .down-of),
     )
 
 pub unit-basis-spec : {M : Type 1} → statement M
@@ -73,4 +80,5 @@ unit-basis-spec =
     unit-rate-requires
     is-doubtful-requires
     is-capped-requires
+    is-unidirectional-requires
     returns)

@@ -5,7 +5,7 @@ use mathlib.Core.Path.{_≡_, refl, sym, ap, _∙_}
 use Prim.Native.Nat.{_-_, _≤_}
 use Rattle.monitor.specs.Plants.{place}
 use Rattle.signed.proofs.Sizes.{back32}
-use Rattle.monitor.proofs.Operated.{located, refused-call, located-call}
+use Rattle.monitor.proofs.Operated.{located, located-units, refused-call, located-call}
 use Rattle.monitor.proofs.Refusals.{operator-answered}
 use Rattle.monitor.specs.Operators.{declare, declareAt}
 use Rattle.monitor.proofs.operators.declare.Statement.{statement}
@@ -30,7 +30,7 @@ cast-declare-at : tie.Need-cast-declare-at
 cast-declare-at c = search needs
 
 declare-at-requires : tie.Need-declare-at-requires
-declare-at-requires c κs = omega (arith, found c)
+declare-at-requires c κs = (omega (arith, found c), located-units _ _ (sym (past c .locate .ensures) ∙ c .enum-told .given .1))
 
 enum-told-2 : tie.Need-enum-told-2
 enum-told-2 c = search needs

@@ -1,42 +1,29 @@
 -- `monitor::operators::permit_declare` meets its contract. Assumes nothing.
 use borrow.Author.Needs.{needs}
 use mathlib.Core.Path.{_≡_, ap, _∙_}
-use lib.IntN.{natAbs}
-use mir.Syntax.{w64}
-use mir.Val.{toZ, ofZ}
-use borrow.Author.Tests.{le-leb, lt-leb}
-use Rattle.signed.proofs.Sizes.{back32, held64, size32}
-use Rattle.monitor.specs.Operators.{permit}
+use Rattle.signed.proofs.Sizes.{back32}
+use Rattle.monitor.specs.Operators.{allowedLevel}
 use Rattle.monitor.proofs.operators.permit_declare.Statement.{statement}
 use Rattle.monitor.proofs.operators.permit_declare.Tie as tie
 
-abbrev sized : tie.After-struct-known2 → tie.Then1
-sized c = c .before .before
+abbrev past-11 : tie.After-struct-known2 → tie.Then1
+past-11 c = c .before .before
 
-wide-is : (c : tie.After-widened) → toZ w64 (ofZ w64 (c .widened .result)) ≡ (c .before) .args .level
-wide-is c = held64 (c .widened .result) (c .widened .ok) ∙ c .widened .ensures ∙ back32 (c .before .args .level) (c .before .fits .level)
+-- 11's condition, of the level as it was sent
+allowed : (c : tie.After-level-allowed) → c .level-allowed .result ≡ allowedLevel (c .before .args .unidirectional) (c .before .args .level)
+allowed c = c .level-allowed .ensures ∙ ap (allowedLevel _) (back32 (c .before .args .level) (c .before .fits .level))
 
-size-is : (c : tie.After-size) → c .size .result ≡ natAbs (c .before .before .args .level)
-size-is c = c .size .ensures ∙ ap natAbs (wide-is (c .before))
-
-widened-requires : tie.Need-widened-requires
-widened-requires c κs = search needs
-
-size-requires : tie.Need-size-requires
-size-requires c κs = rw (wide-is c) (size32 (c .before .args .level) (c .before .fits .level))
+level-allowed-requires : tie.Need-level-allowed-requires
+level-allowed-requires c κs = search needs
 
 returns : tie.Need-returns
-unfolding permit
-returns c = rw (← size-is (sized (c .before) .before), le-leb _ _ (sized (c .before) .if1 .taken), c .if2 .taken)
+returns c = let t = past-11 (c .before) in rw (← allowed (t .before), t .if1 .taken, c .if2 .taken)
 
 returns-2 : tie.Need-returns-2
-unfolding permit
-returns-2 c = rw (← size-is (sized (c .before) .before), le-leb _ _ (sized (c .before) .if1 .taken), c .if2 .left)
+returns-2 c = let t = past-11 (c .before) in rw (← allowed (t .before), t .if1 .taken, c .if2 .left)
 
 returns-3 : tie.Need-returns-3
-unfolding permit
-returns-3 c = rw (← size-is (c .before), lt-leb _ _ (c .if1 .left))
+returns-3 c = rw (← allowed (c .before), c .if1 .left)
 
 pub permit-declare-spec : {M : Type 1} → statement M
-permit-declare-spec =
-    tie.close (tie.spec widened-requires size-requires returns returns-2 returns-3)
+permit-declare-spec = tie.close (tie.spec level-allowed-requires returns returns-2 returns-3)

@@ -1,15 +1,12 @@
 -- `monitor::operators::permit_reinstate` meets its contract. Assumes nothing.
 use borrow.Author.Tests.{eq-eqb, ne-eqb}
-use Rattle.monitor.specs.Operators.{permit}
 use Rattle.monitor.proofs.operators.permit_reinstate.Statement.{statement}
 use Rattle.monitor.proofs.operators.permit_reinstate.Tie as tie
 
 returns : tie.Need-returns
-unfolding permit
 returns c = rw (eq-eqb _ _ (c .if1 .taken))
 
 returns-2 : tie.Need-returns-2
-unfolding permit
 returns-2 c = rw (ne-eqb _ _ (c .if1 .left))
 
 pub permit-reinstate-spec : {M : Type 1} → statement M

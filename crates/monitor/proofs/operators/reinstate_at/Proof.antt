@@ -2,7 +2,7 @@
 use borrow.Author.Needs.{needs}
 use mathlib.Core.Path.{ap, _∙_}
 use Rattle.monitor.proofs.Operated.{accepted-at, refused-at}
-use Rattle.monitor.specs.Operators.{reinstate, change, stored}
+use Rattle.monitor.specs.Operators.{reinstate, permit, change, stored}
 use Rattle.monitor.proofs.operators.reinstate_at.Statement.{statement}
 use Rattle.monitor.proofs.operators.reinstate_at.Tie as tie
 
@@ -28,13 +28,14 @@ enum-told-2 : tie.Need-enum-told-2
 enum-told-2 c = search needs
 
 returns : tie.Need-returns
-unfolding change
+unfolding permit change
 returns c =
     let told = c .before .before in
     let permit = told .before .before .permit-reinstate in
     accepted-at reinstate _ _ _ (permit .ensures) _ (told .enum-told .given .1) (c .store .ensures ∙ ap (stored _ _) (c .before .reinstate .ensures))
 
 returns-2 : tie.Need-returns-2
+unfolding permit
 returns-2 c = refused-at reinstate _ _ _ (c .before .before .permit-reinstate .ensures) _ (c .enum-told2 .given .1)
 
 pub reinstate-at-spec : {M : Type 1} → statement M

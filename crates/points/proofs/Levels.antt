@@ -1,0 +1,20 @@
+-- The level after an accepted interval. Assumes nothing.
+use mathlib.Core.Bool.{Bool, true, false, cond}
+use lib.Dec.{eqb}
+use lib.IntN.{ℤ, pos}
+use Rattle.marks.specs.declared.Assessment.{Assessment}
+use Rattle.points.specs.declared.Point.{Point}
+use Rattle.points.specs.declared.Rule.{Rule}
+use Rattle.points.specs.Points.{declaredAt, counted, graded, declares, settled, markedBy}
+
+-- it is the one that was stored, the one that comes with the mark, or 0
+pub level-after : (P : ℤ → Type 0) (rule : Rule) (a : Assessment) (p : Point) → P (p .level) → P (a .level) → P (pos 0) → P (markedBy rule a p .level)
+unfolding markedBy settled graded
+level-after P rule a p stored given none =
+    let q = counted (a .mark) p in
+    let declares = declares rule (a .mark) (q .small) (q .large) in
+    either (eqb (p .status) 4) p (settled rule a q) stored (either declares (declaredAt (a .level)) (graded rule q) given none)
+  where
+    either : (b : Bool) (x y : Point) → P (x .level) → P (y .level) → P (cond b x y .level)
+    either true x y g h = g
+    either false x y g h = h
