@@ -13,9 +13,7 @@ use borrow.Table.Typed.{Mo}
 use lib.Dec.{lit<}
 use lib.IntN.{ℤ, natAbs}
 use Rattle.signed.proofs.Sizes.{held32, held64, held-size}
-use Rattle.marks.specs.Bounds.{SmallPresent, SmallKeptSums, SmallBasis}
-use Rattle.marks.specs.declared.Present.{Present}
-use Rattle.marks.specs.declared.KeptSums.{KeptSums}
+use Rattle.marks.specs.Bounds.{SmallBasis}
 use Rattle.marks.specs.declared.Basis.{Basis}
 
 -- a call's result
@@ -33,12 +31,6 @@ pub record Held (n : ℕ) (z : ℤ) : Type 0 where
 
 pub held : {n : ℕ} (z : ℤ) → natAbs z ≤ n → n < 2 ^ 63 → Held n z
 held z h l = record { same = held-size z h l; size = rw (held-size z h l) h }
-
-pub held-present : {n : ℕ} {s : Present} → SmallPresent n s → n < 2 ^ 63 → Held n (s .target) × Held n (s .power)
-held-present s l = (held _ (s .target) l, held _ (s .power) l)
-
-pub held-kept : {n : ℕ} {s : KeptSums} → SmallKeptSums n s → n < 2 ^ 63 → Held n (s .target) × Held n (s .raise) × Held n (s .lower)
-held-kept s l = (held _ (s .target) l, held _ (s .raise) l, held _ (s .lower) l)
 
 pub held-basis : {b : Basis} → SmallBasis b
     → Held 130000000 (b .power) × Held 130000000 (b .target) × Held 130000000 (b .up) × Held 130000000 (b .down)

@@ -1,8 +1,8 @@
--- How large the numbers of lines, sums, bases and errors are. Assumes nothing.
+-- How large the numbers of lines, bases and errors are. Assumes nothing.
 use mathlib.Core.Path.{_≡_, refl}
-use mathlib.Core.Bool.{Bool, true, false, cond, not}
+use mathlib.Core.Bool.{Bool, true, false, cond}
 use mathlib.Core.List.{List}
-use Prim.Native.Nat.{ℕ, _+_, _≤_, max}
+use Prim.Native.Nat.{ℕ, _≤_, max}
 use native.Mathlib.Omega.{arith}
 use borrow.Author.Tests.{leb-true, le-leb}
 use lib.Dec.{eqb, lit≤}
@@ -18,19 +18,15 @@ use Rattle.telemetry.specs.declared.Reading.the-variants.{Good, Substituted, Mi
 use Rattle.trace.proofs.Tests.{and-l, and-r}
 use Rattle.telemetry.proofs.Floats.{kilowatts-size}
 use Rattle.telemetry.proofs.Clauses.{target-small, availability-small, raise-small, lower-small}
-use Rattle.marks.specs.Triggers.{directionOf, opposite, rateOf, capabilityOf, unitCapability, addCapability}
+use Rattle.marks.specs.Triggers.{directionOf, rateOf, capabilityOf, unitCapability}
 use Rattle.marks.specs.KeptLines.{nothingKept, keptFrom, keptBounded}
 use Rattle.marks.specs.Errors.{overOf, underOf, errorOf}
 use Rattle.marks.specs.Assessments.{kilowattsIn, unitBasis}
-use Rattle.marks.specs.Aggregates.{isLoad, addSigned, addPresent, addKept, addReadable, addUnreadable, addLine, addMember}
-use Rattle.marks.specs.Aggregates.{noSums, wayOf, aggregateBasis}
-use Rattle.marks.specs.Bounds.{SmallFields, SmallLine, SmallKept, SmallSight, SmallCapability, SmallSums, SmallBasis}
+use Rattle.marks.specs.Bounds.{SmallFields, SmallLine, SmallKept, SmallCapability, SmallBasis}
 use Rattle.marks.specs.declared.Direction.{Direction}
 use Rattle.marks.specs.declared.Direction.the-variants.{Up, Down, Level}
 use Rattle.marks.specs.declared.Capability.{Capability}
 use Rattle.marks.specs.declared.Kept.{Kept}
-use Rattle.marks.specs.declared.Sight.{Sight}
-use Rattle.marks.specs.declared.Sums.{Sums}
 use Rattle.marks.specs.declared.Basis.{Basis}
 
 -- ---- lines and kept lines
@@ -71,7 +67,7 @@ pub capability-small : {f : Fields} → SmallFields f → SmallCapability 200000
 unfolding capabilityOf
 capability-small {f} s = omega (arith, kilowatts-size (f .readings .«ramp_up»), kilowatts-size (f .readings .«ramp_down»))
 
-rate-small : {n : ℕ} {c : Capability} (d : Direction) → SmallCapability n c → rateOf d c ≤ n
+pub rate-small : {n : ℕ} {c : Capability} (d : Direction) → SmallCapability n c → rateOf d c ≤ n
 unfolding rateOf
 rate-small Up s = s .up
 rate-small Down s = s .down
@@ -90,54 +86,6 @@ unit-small kind f k s t = omega (
   either-size (eqb kind 2) (pos (k .raise)) (pos (k .lower)),
   rate-small (directionOf (f .target) (kilowattsIn (powerOf f))) (capability-small s),
 )
-
--- ---- sums over members: one more, and each is at most 2,000,000 larger
-
-signed-size : (load : Bool) (a z : ℤ) → natAbs (addSigned load a z) ≤ natAbs a + natAbs z
-unfolding addSigned
-signed-size true a z = size-minus a z
-signed-size false a z = size-plus a z
-
-capability-more : {n : ℕ} {a c : Capability} (counts : Bool)
-    → SmallCapability n a → SmallCapability 2000000 c → SmallCapability (n + 2000000) (addCapability counts a c)
-unfolding addCapability
-capability-more true s t = omega arith
-capability-more false s t = omega arith
-
-pub wider : {m n : ℕ} {s : Sums} → m ≤ n → SmallSums m s → SmallSums n s
-wider h s = omega arith
-
-readable-more : {n : ℕ} (s : Sums) (kind : ℕ) (f : Fields) (k : Kept)
-    → SmallSums n s → SmallFields f → SmallKept k → SmallSums (n + 2000000) (addReadable s kind f k)
-unfolding addReadable addPresent addKept
-readable-more s kind f k b c d = omega (
-  arith,
-  power-small (powerOf f),
-  signed-size (isLoad kind) (s .present .target) (f .target),
-  signed-size (isLoad kind) (s .present .power) (kilowattsIn (powerOf f)),
-  signed-size (isLoad kind) (s .kept .target) (k .target),
-  size-plus (s .kept .raise) (pos (k .raise)),
-  size-plus (s .kept .lower) (pos (k .lower)),
-  capability-more (not (isLoad kind)) (b .supply) (capability-small c),
-  capability-more (isLoad kind) (b .loads) (capability-small c),
-)
-
-line-more : {n : ℕ} (s : Sums) (kind : ℕ) (l : Line) (k : Kept)
-    → SmallSums n s → SmallLine l → SmallKept k → SmallSums (n + 2000000) (addLine s kind l k)
-unfolding addUnreadable
-line-more s kind (Readable f) k b c d = readable-more s kind f k b c d
-line-more s kind Unreadable k b c d = omega arith
-
-pub member-more : {n : ℕ} (s : Sums) (v : Sight) → SmallSums n s → SmallSight v → SmallSums (n + 2000000) (addMember s v)
-unfolding addMember
-member-more s v b c = line-more s (v .kind) (v .line) (v .kept) b (c .line) (c .kept)
-
-pub no-sums-small : SmallSums 0 noSums
-no-sums-small = omega arith
-
-pub aggregate-small : (s : Sums) → SmallSums 130000000 s → SmallBasis (aggregateBasis s)
-unfolding aggregateBasis
-aggregate-small s b = omega (arith, rate-small (wayOf s) (b .supply), rate-small (opposite (wayOf s)) (b .loads))
 
 -- ---- errors
 

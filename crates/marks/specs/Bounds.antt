@@ -1,5 +1,5 @@
--- How large the numbers of a line, of a kept line and of sums over members are. A readable line's are within 01's bounds, and
--- a walk along a chain takes at most 65 steps.
+-- How large the numbers of a line, of a kept line and of a basis are. A readable line's are within 01's bounds, and an aggregate has at most 65
+-- of them.
 use Prim.Native.Nat.{ℕ, _≤_}
 use lib.IntN.{natAbs}
 use Rattle.telemetry.specs.declared.Fields.{Fields}
@@ -8,9 +8,6 @@ use Rattle.telemetry.specs.declared.Line.the-variants.{Readable, Unreadable}
 use Rattle.marks.specs.declared.Capability.{Capability}
 use Rattle.marks.specs.declared.Kept.{Kept}
 use Rattle.marks.specs.declared.Sight.{Sight}
-use Rattle.marks.specs.declared.Present.{Present}
-use Rattle.marks.specs.declared.KeptSums.{KeptSums}
-use Rattle.marks.specs.declared.Sums.{Sums}
 use Rattle.marks.specs.declared.Basis.{Basis}
 
 pub record SmallFields (f : Fields) : Type 0 where
@@ -37,21 +34,6 @@ pub record SmallCapability (n : ℕ) (c : Capability) : Type 0 where
   pub up : c .up ≤ n
   pub down : c .down ≤ n
   pub least : c .least ≤ n
-
-pub record SmallPresent (n : ℕ) (s : Present) : Type 0 where
-  pub target : natAbs (s .target) ≤ n
-  pub power : natAbs (s .power) ≤ n
-
-pub record SmallKeptSums (n : ℕ) (s : KeptSums) : Type 0 where
-  pub target : natAbs (s .target) ≤ n
-  pub raise : natAbs (s .raise) ≤ n
-  pub lower : natAbs (s .lower) ≤ n
-
-pub record SmallSums (n : ℕ) (s : Sums) : Type 0 where
-  pub present : SmallPresent n (s .present)
-  pub kept : SmallKeptSums n (s .kept)
-  pub supply : SmallCapability n (s .supply)
-  pub loads : SmallCapability n (s .loads)
 
 pub record SmallBasis (b : Basis) : Type 0 where
   pub power : natAbs (b .power) ≤ 130000000

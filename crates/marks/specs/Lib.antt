@@ -4,7 +4,6 @@ pub mod KeptLines
 pub mod Errors
 pub mod Levels
 pub mod Assessments
-pub mod Aggregates
 pub mod Bounds
 pub mod Hosts
 pub mod Table

@@ -1,20 +1,17 @@
-// Triggers, errors, marks and levels of units and aggregates (01, "Triggers and errors" and the list of marks under "Marks and runs"; 02,
+// Triggers, errors, marks and levels, of units and what aggregates share with them (01, "Triggers and errors" and the list of marks under "Marks and runs"; 02,
 // 2026-01 and 2026-02).
 // Power is in kW, ramp rates in kW per minute, triggers in hundredths of a kW.
 ghost use mathlib.Core.Path.{_≡_};
 ghost use mathlib.Core.Bool.{true};
-ghost use Prim.Native.Nat.{_*_, _-_, _^_, _<_, _≤_, min, max};
+ghost use Prim.Native.Nat.{_*_, _^_, _<_, _≤_, min, max};
 ghost use lib.IntN.{natAbs};
-ghost use lib.ListN.{length};
 ghost use Rattle.telemetry.specs.Kilowatts.{kilowattsOf};
 ghost use Rattle.marks.specs.Triggers.{directionOf, opposite, rateOf, capabilityOf, unitCapability, addCapability, triggerOf};
 ghost use Rattle.marks.specs.Errors.{overOf, underOf, errorOf, exceeds};
 ghost use Rattle.marks.specs.KeptLines.{nothingKept, keptBounded, keptFrom};
 ghost use Rattle.marks.specs.Assessments.{kilowattsIn, isMissing, isDoubtful, isKnown, markOf, judged, without, upOf, downOf};
 ghost use Rattle.marks.specs.Assessments.{isCapped, isUncapped, unitBasis, knownAssessment, readableAssessment, unitAssessment};
-ghost use Rattle.marks.specs.Aggregates.{addSigned, addFlags, unreadableFlags, addPresent, addKept, addReadable, addUnreadable};
-ghost use Rattle.marks.specs.Aggregates.{addMember, noSums, aggregateBasis, sumsAssessment};
-ghost use Rattle.marks.specs.Bounds.{SmallFields, SmallKept, SmallSight, SmallCapability, SmallPresent, SmallKeptSums, SmallSums, SmallBasis};
+ghost use Rattle.marks.specs.Bounds.{SmallFields, SmallKept, SmallSight, SmallCapability, SmallBasis};
 ghost use Rattle.marks.specs.Hosts.{markNumber, secondMark, unitMarkOf};
 use telemetry::Fields;
 use telemetry::Line;
@@ -44,13 +41,13 @@ fn lesser(a: u64, b: u64) -> u64
     if a <= b { a } else { b }
 }
 
-fn greater(a: u64, b: u64) -> u64
+pub fn greater(a: u64, b: u64) -> u64
     ensures { λ r. ⌜ r ≡ max a b ⌝ }
 {
     if a <= b { b } else { a }
 }
 
-fn direction_of(target: i64, power: i64) -> Direction
+pub fn direction_of(target: i64, power: i64) -> Direction
     ensures { λ r. ⌜ r ≡ directionOf target power ⌝ }
 {
     if power < target {
@@ -64,7 +61,7 @@ fn direction_of(target: i64, power: i64) -> Direction
 
 impl Direction {
     // A load's part in an aggregate goes the other way.
-    fn turned(self) -> Direction
+    pub fn turned(self) -> Direction
         ensures { λ r. ⌜ r ≡ opposite self ⌝ }
     {
         match self {
@@ -76,7 +73,7 @@ impl Direction {
 }
 
 impl Capability {
-    fn rate(self, direction: Direction) -> u64
+    pub fn rate(self, direction: Direction) -> u64
         ensures { λ r. ⌜ r ≡ rateOf direction self ⌝ }
     {
         match direction {
@@ -87,7 +84,7 @@ impl Capability {
     }
 
     // The sums with one unit more, where it counts.
-    fn plus(self, counts: bool, unit: Capability) -> Capability
+    pub fn plus(self, counts: bool, unit: Capability) -> Capability
         requires { ⌜ SmallCapability (2 ^ 60) self × SmallCapability (2 ^ 60) unit ⌝ }
         ensures { λ r. ⌜ r ≡ addCapability counts self unit ⌝ }
     {
@@ -117,7 +114,12 @@ fn allowed_rate(scada: f32, bid: u32) -> u64
 }
 
 // A unit's own, from the readings, the availability and the bid rates of its line.
-fn capability_of(readings: Readings, availability: u32, bid_up: u32, bid_down: u32) -> Capability
+pub fn capability_of(
+    readings: Readings,
+    availability: u32,
+    bid_up: u32,
+    bid_down: u32,
+) -> Capability
     ensures { λ r. ⌜ r ≡ capabilityOf readings availability «bid_up» «bid_down» ⌝ }
 {
     let up = allowed_rate(readings.ramp_up, bid_up);
@@ -273,7 +275,7 @@ fn mark_of(error: i64, small: u64, large: u64, doubtful: bool) -> Mark
     Mark::Clear
 }
 
-fn judge(b: Basis) -> Assessment
+pub fn judge(b: Basis) -> Assessment
     requires { ⌜ SmallBasis b ⌝ }
     ensures { λ r. ⌜ r ≡ judged b ⌝ }
 {
@@ -292,7 +294,7 @@ fn judge(b: Basis) -> Assessment
     }
 }
 
-fn unassessed(mark: Mark) -> Assessment
+pub fn unassessed(mark: Mark) -> Assessment
     ensures { λ r. ⌜ r ≡ without mark ⌝ }
 {
     Assessment {
@@ -304,7 +306,7 @@ fn unassessed(mark: Mark) -> Assessment
 }
 
 // MW as whole kW, where there is a value.
-fn power_in(reading: Reading) -> i32
+pub fn power_in(reading: Reading) -> i32
     ensures { λ r. ⌜ r ≡ kilowattsIn reading ⌝ }
 {
     match reading {
@@ -325,7 +327,7 @@ fn is_missing(reading: Reading) -> bool
 }
 
 // A mark beyond a trigger turns to Doubt on a substituted value.
-fn is_doubtful(reading: Reading) -> bool
+pub fn is_doubtful(reading: Reading) -> bool
     ensures { λ r. ⌜ r ≡ isDoubtful reading ⌝ }
 {
     match reading {
@@ -336,7 +338,7 @@ fn is_doubtful(reading: Reading) -> bool
 }
 
 // Whether a readable line can be assessed: it has a value, and a line is kept before it.
-fn is_known(f: Fields, k: Kept) -> bool
+pub fn is_known(f: Fields, k: Kept) -> bool
     ensures { λ r. ⌜ r ≡ isKnown f k ⌝ }
 {
     !is_missing(f.power()) & k.have
@@ -449,219 +451,6 @@ pub fn assess_unit(chained: bool, unit: Sight) -> Assessment
     match line {
         Line::Readable(f) => assess_readable(unit.kind, chained, f, kept),
         Line::Unreadable => unassessed(Mark::Blank),
-    }
-}
-
-// ---- an aggregate
-
-// Of the members so far: whether every line is readable, some conformance mode is not 0, every member can be assessed, and some
-// value is substituted.
-pub struct Flags {
-    pub readable: bool,
-    pub monitored: bool,
-    pub known: bool,
-    pub doubtful: bool,
-}
-
-// Signed sums of this interval's MWB and MW.
-pub struct Present {
-    pub target: i64,
-    pub power: i64,
-}
-
-// Sums over kept lines: signed MWB, and FCR and FCL.
-pub struct KeptSums {
-    pub target: i64,
-    pub raise: i64,
-    pub lower: i64,
-}
-
-// An aggregate's members so far. `supply` is over kinds 1 and 3, `loads` over kind 2. No chain has a unit of kind 4.
-pub struct Sums {
-    pub flags: Flags,
-    pub present: Present,
-    pub kept: KeptSums,
-    pub supply: Capability,
-    pub loads: Capability,
-}
-
-fn add_signed(load: bool, sum: i64, z: i32) -> i64
-    requires { ⌜ natAbs sum < 2 ^ 60 ⌝ }
-    ensures { λ r. ⌜ r ≡ addSigned load sum z ⌝ }
-{
-    if load {
-        signed::minus(sum, signed::widened(z))
-    } else {
-        signed::plus(sum, signed::widened(z))
-    }
-}
-
-impl Flags {
-    fn plus(self, f: Fields, k: Kept) -> Flags
-        ensures { λ r. ⌜ r ≡ addFlags self f k ⌝ }
-    {
-        Flags {
-            readable: self.readable,
-            monitored: self.monitored | (f.mode != 0),
-            known: self.known & is_known(f, k),
-            doubtful: self.doubtful | is_doubtful(f.power()),
-        }
-    }
-
-    fn unreadable(mut self) -> Flags
-        ensures { λ r. ⌜ r ≡ unreadableFlags self ⌝ }
-    {
-        self.readable = false;
-        self
-    }
-}
-
-impl Present {
-    fn plus(self, load: bool, f: Fields) -> Present
-        requires { ⌜ SmallPresent (2 ^ 59) self ⌝ }
-        ensures { λ r. ⌜ r ≡ addPresent load self f ⌝ }
-    {
-        Present {
-            target: add_signed(load, self.target, f.target),
-            power: add_signed(load, self.power, power_in(f.power())),
-        }
-    }
-}
-
-impl KeptSums {
-    fn plus(self, load: bool, k: Kept) -> KeptSums
-        requires { ⌜ SmallKeptSums (2 ^ 59) self ⌝ }
-        ensures { λ r. ⌜ r ≡ addKept load self k ⌝ }
-    {
-        KeptSums {
-            target: add_signed(load, self.target, k.target),
-            raise: signed::plus(self.raise, signed::whole(k.raise)),
-            lower: signed::plus(self.lower, signed::whole(k.lower)),
-        }
-    }
-}
-
-impl Sums {
-    pub fn none() -> Sums
-        ensures { λ r. ⌜ r ≡ noSums ⌝ }
-    {
-        let nothing = Capability {
-            availability: 0,
-            up: 0,
-            down: 0,
-            least: 0,
-        };
-        Sums {
-            flags: Flags {
-                readable: true,
-                monitored: false,
-                known: true,
-                doubtful: false,
-            },
-            present: Present {
-                target: 0,
-                power: 0,
-            },
-            kept: KeptSums {
-                target: 0,
-                raise: 0,
-                lower: 0,
-            },
-            supply: nothing,
-            loads: nothing,
-        }
-    }
-
-    fn plus_readable(self, kind: u8, f: Fields, k: Kept) -> Sums
-        requires { ⌜ SmallSums (2 ^ 59) self × SmallFields f ⌝ }
-        ensures { λ r. ⌜ r ≡ addReadable self kind f k ⌝ }
-    {
-        let load = kind == 2;
-        let flags = self.flags;
-        let present = self.present;
-        let kept = self.kept;
-        let supply = self.supply;
-        let loads = self.loads;
-        let readings = f.readings;
-        let unit = capability_of(readings, f.availability, f.bid_up, f.bid_down);
-        Sums {
-            flags: flags.plus(f, k),
-            present: present.plus(load, f),
-            kept: kept.plus(load, k),
-            supply: supply.plus(!load, unit),
-            loads: loads.plus(load, unit),
-        }
-    }
-
-    fn plus_unreadable(self) -> Sums
-        ensures { λ r. ⌜ r ≡ addUnreadable self ⌝ }
-    {
-        let flags = self.flags;
-        let present = self.present;
-        let kept = self.kept;
-        let supply = self.supply;
-        let loads = self.loads;
-        Sums {
-            flags: flags.unreadable(),
-            present,
-            kept,
-            supply,
-            loads,
-        }
-    }
-
-    // One member more.
-    pub fn plus(self, member: Sight) -> Sums
-        requires { ⌜ SmallSums (2 ^ 59) self × SmallSight member ⌝ }
-        ensures { λ r. ⌜ r ≡ addMember self member ⌝ }
-    {
-        let line = member.line;
-        let kept = member.kept;
-        match line {
-            Line::Readable(f) => self.plus_readable(member.kind, f, kept),
-            Line::Unreadable => self.plus_unreadable(),
-        }
-    }
-
-    fn basis(self) -> Basis
-        requires { ⌜ SmallSums 130000000 self ⌝ }
-        ensures { λ r. ⌜ r ≡ aggregateBasis self ⌝ }
-    {
-        let flags = self.flags;
-        let present = self.present;
-        let kept = self.kept;
-        let supply = self.supply;
-        let loads = self.loads;
-        let direction = direction_of(present.target, present.power);
-        Basis {
-            power: present.power,
-            target: kept.target,
-            up: kept.raise,
-            down: kept.lower,
-            availability: greater(supply.availability, loads.availability),
-            rate: greater(supply.rate(direction), loads.rate(direction.turned())),
-            doubtful: flags.doubtful,
-            capped: false,
-            unidirectional: false,
-        }
-    }
-
-    // The assessment of the aggregate whose members these are.
-    pub fn assess(self) -> Assessment
-        requires { ⌜ SmallSums 130000000 self ⌝ }
-        ensures { λ r. ⌜ r ≡ sumsAssessment self ⌝ }
-    {
-        let flags = self.flags;
-        if flags.readable {
-            if flags.monitored {
-                if flags.known {
-                    return judge(self.basis());
-                }
-                return unassessed(Mark::Blank);
-            }
-            return unassessed(Mark::Off);
-        }
-        unassessed(Mark::Blank)
     }
 }
 

@@ -18,16 +18,18 @@ use Rattle.telemetry.specs.declared.Line.{Line}
 use Rattle.telemetry.specs.declared.Line.the-variants.{Readable, Unreadable}
 use Rattle.register.specs.Chains.{chain, membersOf}
 use Rattle.marks.specs.Assessments.{isKnown, isUncapped, judged, without, unitBasis, knownAssessment, readableAssessment, lineAssessment, unitAssessment}
-use Rattle.marks.specs.Aggregates.{noSums, addMember, addMembers, aggregateBasis, sumsAssessment, aggregateAssessment}
-use Rattle.marks.specs.Bounds.{SmallLine, SmallKept, SmallSight, SmallSums, SmallBasis}
+use Rattle.aggregates.specs.Aggregates.{noSums, addMember, addMembers, aggregateBasis, sumsAssessment, aggregateAssessment}
+use Rattle.marks.specs.Bounds.{SmallLine, SmallKept, SmallSight, SmallBasis}
+use Rattle.aggregates.specs.Sizes.{SmallSums}
 use Rattle.marks.specs.declared.Assessment.{Assessment}
 use Rattle.marks.specs.declared.Basis.{Basis}
 use Rattle.marks.specs.declared.Kept.{Kept}
 use Rattle.marks.specs.declared.Mark.{Mark}
 use Rattle.marks.specs.declared.Mark.the-variants.{Off, Blank}
 use Rattle.marks.specs.declared.Sight.{Sight}
-use Rattle.marks.specs.declared.Sums.{Sums}
-use Rattle.marks.proofs.Small.{unit-small, wider, member-more, no-sums-small, aggregate-small, error-size}
+use Rattle.aggregates.specs.declared.Sums.{Sums}
+use Rattle.marks.proofs.Small.{unit-small, error-size}
+use Rattle.aggregates.proofs.Small.{wider, member-more, no-sums-small, aggregate-small}
 use Rattle.marks.proofs.Thresholds.{small-bounded}
 use Rattle.points.specs.declared.Point.{Point}
 use Rattle.points.proofs.Levels.{level-after}

@@ -1,11 +1,12 @@
 // Reads units and aggregates as `tools/trial_marks.py` writes them and prints what `marks` makes of each.
 ghost use Prim.Native.Nat.{_+_, _*_, _<_, _≤_};
 ghost use lib.ListN.{length};
-ghost use Rattle.marks.specs.Bounds.{SmallSight, SmallSums};
+ghost use Rattle.marks.specs.Bounds.{SmallSight};
+ghost use Rattle.aggregates.specs.Sizes.{SmallSums};
+use aggregates::Sums;
 use marks::Assessment;
 use marks::Mark;
 use marks::Sight;
-use marks::Sums;
 
 fn put_mark(out: &mut [u8], at: usize, mark: Mark) -> usize {
     match mark {

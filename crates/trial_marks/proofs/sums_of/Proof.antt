@@ -4,8 +4,8 @@ use native.Mathlib.Omega.{arith}
 use borrow.Author.Needs.{needs}
 use Prim.Native.Nat.{_*_, _-_, _%_, _≤_, _<_}
 use native.Mathlib.Nat.{mod-lt}
-use Rattle.marks.specs.Bounds.{SmallSums}
-use Rattle.marks.proofs.Small.{member-more, no-sums-small, wider}
+use Rattle.aggregates.specs.Sizes.{SmallSums}
+use Rattle.aggregates.proofs.Small.{member-more, no-sums-small, wider}
 use Rattle.trial_marks.proofs.sums_of.Statement.{statement}
 use Rattle.trial_marks.proofs.sums_of.Tie as tie
 

@@ -1,12 +1,13 @@
--- `marks::Present::plus` meets its contract. Assumes nothing.
+-- `aggregates::Present::plus` meets its contract. Assumes nothing.
 use borrow.Author.Needs.{needs}
 use native.Mathlib.Omega.{arith}
 use lib.Dec.{lit<}
 use Rattle.signed.proofs.Sizes.{held32}
-use Rattle.marks.specs.Aggregates.{addPresent}
-use Rattle.marks.proofs.Held.{result32, result64, held-present}
-use Rattle.marks.proofs.Present.plus.Statement.{statement}
-use Rattle.marks.proofs.Present.plus.Tie as tie
+use Rattle.aggregates.specs.Aggregates.{addPresent}
+use Rattle.marks.proofs.Held.{result32, result64}
+use Rattle.aggregates.proofs.Held.{held-present}
+use Rattle.aggregates.proofs.Present.plus.Statement.{statement}
+use Rattle.aggregates.proofs.Present.plus.Tie as tie
 
 abbrev start : tie.After-add-signed → tie.Start
 start c = c .before .before .before

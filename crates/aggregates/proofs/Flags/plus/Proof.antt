@@ -1,8 +1,8 @@
--- `marks::Flags::plus` meets its contract. Assumes nothing.
+-- `aggregates::Flags::plus` meets its contract. Assumes nothing.
 use borrow.Author.Needs.{needs}
-use Rattle.marks.specs.Aggregates.{addFlags}
-use Rattle.marks.proofs.Flags.plus.Statement.{statement}
-use Rattle.marks.proofs.Flags.plus.Tie as tie
+use Rattle.aggregates.specs.Aggregates.{addFlags}
+use Rattle.aggregates.proofs.Flags.plus.Statement.{statement}
+use Rattle.aggregates.proofs.Flags.plus.Tie as tie
 
 is-known-requires : tie.Need-is-known-requires
 is-known-requires c κs = search needs

@@ -1,10 +1,10 @@
--- `marks::Sums::plus` meets its contract. Assumes nothing.
+-- `aggregates::Sums::plus` meets its contract. Assumes nothing.
 use borrow.Author.Needs.{needs}
 use mathlib.Core.Path.{subst}
 use Rattle.marks.specs.Bounds.{SmallLine}
-use Rattle.marks.specs.Aggregates.{addMember}
-use Rattle.marks.proofs.Sums.plus.Statement.{statement}
-use Rattle.marks.proofs.Sums.plus.Tie as tie
+use Rattle.aggregates.specs.Aggregates.{addMember}
+use Rattle.aggregates.proofs.Sums.plus.Statement.{statement}
+use Rattle.aggregates.proofs.Sums.plus.Tie as tie
 
 abbrev start : tie.After-line → tie.Start
 start c = c .before .before .before

@@ -1,9 +1,9 @@
--- `marks::Sums::assess` meets its contract. Assumes nothing.
+-- `aggregates::Sums::assess` meets its contract. Assumes nothing.
 use borrow.Author.Needs.{needs}
-use Rattle.marks.proofs.Small.{aggregate-small}
-use Rattle.marks.specs.Aggregates.{sumsAssessment}
-use Rattle.marks.proofs.Sums.assess.Statement.{statement}
-use Rattle.marks.proofs.Sums.assess.Tie as tie
+use Rattle.aggregates.proofs.Small.{aggregate-small}
+use Rattle.aggregates.specs.Aggregates.{sumsAssessment}
+use Rattle.aggregates.proofs.Sums.assess.Statement.{statement}
+use Rattle.aggregates.proofs.Sums.assess.Tie as tie
 
 abbrev start : tie.After-basis → tie.Start
 start c = c .before .before .before .before .before

@@ -1,11 +1,11 @@
--- `marks::Sums::plus_readable` meets its contract. Assumes nothing.
+-- `aggregates::Sums::plus_readable` meets its contract. Assumes nothing.
 use borrow.Author.Needs.{needs}
 use native.Mathlib.Omega.{arith}
 use Rattle.marks.proofs.Small.{capability-small}
-use Rattle.marks.specs.Aggregates.{addReadable}
+use Rattle.aggregates.specs.Aggregates.{addReadable}
 use Rattle.marks.specs.Bounds.{SmallCapability}
-use Rattle.marks.proofs.Sums.plus_readable.Statement.{statement}
-use Rattle.marks.proofs.Sums.plus_readable.Tie as tie
+use Rattle.aggregates.proofs.Sums.plus_readable.Statement.{statement}
+use Rattle.aggregates.proofs.Sums.plus_readable.Tie as tie
 
 abbrev start : tie.After-capability-of → tie.Start
 start c = c .before .before .before .before .before .before .before

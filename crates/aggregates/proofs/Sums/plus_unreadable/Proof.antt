@@ -1,8 +1,8 @@
--- `marks::Sums::plus_unreadable` meets its contract. Assumes nothing.
+-- `aggregates::Sums::plus_unreadable` meets its contract. Assumes nothing.
 use borrow.Author.Needs.{needs}
-use Rattle.marks.specs.Aggregates.{addUnreadable}
-use Rattle.marks.proofs.Sums.plus_unreadable.Statement.{statement}
-use Rattle.marks.proofs.Sums.plus_unreadable.Tie as tie
+use Rattle.aggregates.specs.Aggregates.{addUnreadable}
+use Rattle.aggregates.proofs.Sums.plus_unreadable.Statement.{statement}
+use Rattle.aggregates.proofs.Sums.plus_unreadable.Tie as tie
 
 unreadable-requires : tie.Need-unreadable-requires
 unreadable-requires c κs = search needs

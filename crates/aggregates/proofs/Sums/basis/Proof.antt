@@ -1,10 +1,10 @@
--- `marks::Sums::basis` meets its contract. Assumes nothing.
+-- `aggregates::Sums::basis` meets its contract. Assumes nothing.
 use borrow.Author.Needs.{needs}
 use lib.Dec.{lit<}
-use Rattle.marks.specs.Aggregates.{aggregateBasis}
-use Rattle.marks.proofs.Held.{held-present, held-kept}
-use Rattle.marks.proofs.Sums.basis.Statement.{statement}
-use Rattle.marks.proofs.Sums.basis.Tie as tie
+use Rattle.aggregates.specs.Aggregates.{aggregateBasis}
+use Rattle.aggregates.proofs.Held.{held-present, held-kept}
+use Rattle.aggregates.proofs.Sums.basis.Statement.{statement}
+use Rattle.aggregates.proofs.Sums.basis.Tie as tie
 
 abbrev start : tie.After-direction-of → tie.Start
 start c = c .before .before .before .before .before .before .before .before

@@ -1,4 +1,4 @@
--- `marks::add_signed` meets its contract. Assumes nothing.
+-- `aggregates::add_signed` meets its contract. Assumes nothing.
 use borrow.Author.Needs.{needs}
 use native.Mathlib.Omega.{arith}
 use mathlib.Core.Path.{_≡_, _∙_}
@@ -6,10 +6,10 @@ use mir.Syntax.{w32, w64}
 use mir.Val.{toZ, ofZ}
 use mir.ValLaws.{toZ-ofZ}
 use Rattle.signed.proofs.Sizes.{size31}
-use Rattle.marks.specs.Aggregates.{addSigned}
+use Rattle.aggregates.specs.Aggregates.{addSigned}
 use Rattle.marks.proofs.Held.{result64}
-use Rattle.marks.proofs.add_signed.Statement.{statement}
-use Rattle.marks.proofs.add_signed.Tie as tie
+use Rattle.aggregates.proofs.add_signed.Statement.{statement}
+use Rattle.aggregates.proofs.add_signed.Tie as tie
 
 -- the signed numbers, as locals hold them
 sum-is : (s : tie.Start) → toZ w64 (ofZ w64 (s .args .sum)) ≡ s .args .sum

@@ -8,19 +8,19 @@ use Rattle.telemetry.specs.Lines.{powerOf}
 use Rattle.telemetry.specs.declared.Fields.{Fields}
 use Rattle.telemetry.specs.declared.Line.{Line}
 use Rattle.telemetry.specs.declared.Line.the-variants.{Readable, Unreadable}
 use Rattle.marks.specs.Triggers.{directionOf, opposite, rateOf, unitCapability, addCapability}
 use Rattle.marks.specs.Assessments.{kilowattsIn, isDoubtful, isKnown, judged, without}
 use Rattle.marks.specs.declared.Direction.{Direction}
 use Rattle.marks.specs.declared.Capability.{Capability}
 use Rattle.marks.specs.declared.Kept.{Kept}
 use Rattle.marks.specs.declared.Sight.{Sight}
-use Rattle.marks.specs.declared.Flags.{Flags}
-use Rattle.marks.specs.declared.Present.{Present}
-use Rattle.marks.specs.declared.KeptSums.{KeptSums}
-use Rattle.marks.specs.declared.Sums.{Sums}
+use Rattle.aggregates.specs.declared.Flags.{Flags}
+use Rattle.aggregates.specs.declared.Present.{Present}
+use Rattle.aggregates.specs.declared.KeptSums.{KeptSums}
+use Rattle.aggregates.specs.declared.Sums.{Sums}
 use Rattle.marks.specs.declared.Mark.the-variants.{Off, Blank}
 use Rattle.marks.specs.declared.Basis.{Basis}
 use Rattle.marks.specs.declared.Assessment.{Assessment}
 
 abbrev pub isLoad : ℕ → Bool
 isLoad kind = eqb kind 2

@@ -1,13 +1,14 @@
--- `marks::KeptSums::plus` meets its contract. Assumes nothing.
+-- `aggregates::KeptSums::plus` meets its contract. Assumes nothing.
 use native.Mathlib.Omega.{arith}
 use borrow.Author.Needs.{needs}
 use mathlib.Core.Path.{_∙_}
 use lib.Dec.{lit<}
 use Rattle.signed.proofs.Sizes.{held32}
-use Rattle.marks.specs.Aggregates.{addKept}
-use Rattle.marks.proofs.Held.{result64, held-kept}
-use Rattle.marks.proofs.KeptSums.plus.Statement.{statement}
-use Rattle.marks.proofs.KeptSums.plus.Tie as tie
+use Rattle.aggregates.specs.Aggregates.{addKept}
+use Rattle.marks.proofs.Held.{result64}
+use Rattle.aggregates.proofs.Held.{held-kept}
+use Rattle.aggregates.proofs.KeptSums.plus.Statement.{statement}
+use Rattle.aggregates.proofs.KeptSums.plus.Tie as tie
 
 abbrev start : tie.After-add-signed → tie.Start
 start c = c .before .before .before
