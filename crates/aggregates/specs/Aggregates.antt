@@ -14,13 +14,13 @@ use Rattle.marks.specs.declared.Direction.{Direction}
 use Rattle.marks.specs.declared.Capability.{Capability}
 use Rattle.marks.specs.declared.Kept.{Kept}
 use Rattle.marks.specs.declared.Sight.{Sight}
+use Rattle.marks.specs.declared.Mark.the-variants.{Off, Blank}
+use Rattle.marks.specs.declared.Basis.{Basis}
+use Rattle.marks.specs.declared.Assessment.{Assessment}
 use Rattle.aggregates.specs.declared.Flags.{Flags}
 use Rattle.aggregates.specs.declared.Present.{Present}
 use Rattle.aggregates.specs.declared.KeptSums.{KeptSums}
 use Rattle.aggregates.specs.declared.Sums.{Sums}
-use Rattle.marks.specs.declared.Mark.the-variants.{Off, Blank}
-use Rattle.marks.specs.declared.Basis.{Basis}
-use Rattle.marks.specs.declared.Assessment.{Assessment}
 
 abbrev pub isLoad : ℕ → Bool
 isLoad kind = eqb kind 2

@@ -1,4 +1,5 @@
-// Marks of aggregates, from sums over their members (01, "Triggers and errors" and the list of marks under "Marks and runs").
+// Marks and levels of aggregates, from sums over their members (01, "Triggers and errors" and the list of marks under "Marks and runs"; 02,
+// 2026-02).
 ghost use mathlib.Core.Path.{_≡_};
 ghost use Prim.Native.Nat.{_^_, _<_};
 ghost use lib.IntN.{natAbs};

@@ -1,5 +1,5 @@
-// Triggers, errors, marks and levels, of units and what aggregates share with them (01, "Triggers and errors" and the list of marks under "Marks and runs"; 02,
-// 2026-01 and 2026-02).
+// Triggers, errors, marks and levels: of units, and what aggregates share with them (01, "Triggers and errors" and the list of marks under
+// "Marks and runs"; 02, 2026-01 and 2026-02).
 // Power is in kW, ramp rates in kW per minute, triggers in hundredths of a kW.
 ghost use mathlib.Core.Path.{_≡_};
 ghost use mathlib.Core.Bool.{true};
@@ -198,8 +198,8 @@ pub struct Assessment {
     pub level: i32,
 }
 
-// What a point that is neither Off nor Blank is assessed from. Where it is capped, only a positive error counts; where it is a unit that goes
-// one way, its level is not negative.
+// What a point that is neither Off nor Blank is assessed from. Where it is capped, only a positive error counts; where it is a unit of kind 1, 2
+// or 4, its level is not negative.
 pub struct Basis {
     pub power: i64,
     pub target: i64,
