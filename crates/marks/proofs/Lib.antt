@@ -1,6 +1,7 @@
 -- What belongs to no one function.
 pub mod Small
 pub mod Held
+pub mod Fields
 pub mod Thresholds
 pub mod Rows
 pub mod SemiScheduled

@@ -1,7 +1,7 @@
 -- The level after an accepted interval. Assumes nothing.
-use mathlib.Core.Bool.{Bool, true, false, cond}
 use lib.Dec.{eqb}
 use lib.IntN.{ℤ, pos}
+use Rattle.trace.proofs.Tests.{chosen}
 use Rattle.marks.specs.declared.Assessment.{Assessment}
 use Rattle.points.specs.declared.Point.{Point}
 use Rattle.points.specs.declared.Rule.{Rule}
@@ -13,8 +13,7 @@ unfolding markedBy settled graded
 level-after P rule a p stored given none =
     let q = counted (a .mark) p in
     let declares = declares rule (a .mark) (q .small) (q .large) in
-    either (eqb (p .status) 4) p (settled rule a q) stored (either declares (declaredAt (a .level)) (graded rule q) given none)
+    chosen Held (eqb (p .status) 4) p (settled rule a q) stored (chosen Held declares (declaredAt (a .level)) (graded rule q) given none)
   where
-    either : (b : Bool) (x y : Point) → P (x .level) → P (y .level) → P (cond b x y .level)
-    either true x y g h = g
-    either false x y g h = h
+    Held : Point → Type 0
+    Held q = P (q .level)

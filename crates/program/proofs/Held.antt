@@ -12,6 +12,7 @@ use lib.IntN.{pos, natAbs}
 use lib.ListN.{getD}
 use mir.Syntax.{w32}
 use mir.Val.{SFits}
+use Rattle.trace.proofs.Tests.{chosen}
 use Rattle.signed.proofs.Sizes.{size-fits}
 use Rattle.signed.proofs.Floors.{floored-size}
 use Rattle.telemetry.specs.declared.Line.{Line}
@@ -69,8 +70,7 @@ judged-small b s =
     }
 
 either : (b : Bool) {x y : Assessment} → SmallAssessment x → SmallAssessment y → SmallAssessment (cond b x y)
-either true g h = g
-either false g h = h
+either b = chosen SmallAssessment b _ _
 
 -- a unit's, and an aggregate's from its sums
 unit-assessed : (kind : ℕ) (chained : Bool) (l : Line) (k : Kept) → SmallLine l → SmallKept k → SmallAssessment (lineAssessment kind chained l k)

@@ -1,7 +1,16 @@
 -- `marks::unit_basis` meets its contract. Assumes nothing.
 use borrow.Author.Needs.{needs}
+use mathlib.Core.Path.{_≡_, refl, ap, _∙_}
+use Prim.Native.Nat.{ℕ}
+use lib.IntN.{ℤ}
+use mir.Syntax.{w32, w64}
+use mir.Val.{toZ, ofZ}
 use Rattle.signed.proofs.Sizes.{held32}
-use Rattle.marks.specs.Assessments.{unitBasis}
+use Rattle.telemetry.specs.Lines.{powerOf}
+use Rattle.telemetry.specs.declared.Fields.{Fields}
+use Rattle.marks.specs.Triggers.{directionOf, rateOf, unitCapability}
+use Rattle.marks.specs.Assessments.{kilowattsIn, isDoubtful, unitBasis}
+use Rattle.marks.proofs.Fields.{basis-is}
 use Rattle.marks.proofs.Held.{result32, result64}
 use Rattle.marks.proofs.unit_basis.Statement.{statement}
 use Rattle.marks.proofs.unit_basis.Tie as tie
@@ -17,6 +26,21 @@ sides c = c .before .before
 
 abbrev doubtful : tie.After-is-unidirectional → tie.After-is-doubtful
 doubtful c = c .before .before
+
+abbrev reading : tie.After-widened → tie.After-power
+reading c = c .before .before
+
+-- the numbers of the line and of the kept line, as locals hold them
+target-is : (s : tie.Start) → toZ w32 (ofZ w32 (s .args .k .target)) ≡ s .args .k .target
+target-is s = held32 (s .args .k .target) (search needs)
+
+power-is : (c : tie.After-widened) → toZ w64 (ofZ w64 (c .widened .result)) ≡ kilowattsIn (powerOf (start c .args .f))
+power-is c =
+    result64 (c .widened) ∙ c .widened .ensures ∙ result32 (c .before .power-in) ∙ c .before .power-in .ensures
+    ∙ ap kilowattsIn (reading c .power .ensures)
+
+abbrev rate-at : Fields → ℤ → ℕ
+rate-at f power = rateOf (directionOf (f .target) power) (unitCapability f)
 
 power-requires : tie.Need-power-requires
 power-requires c κs = search needs
@@ -57,14 +81,16 @@ returns c =
     let down = sides (doubtful c) in
     let up = down .before in
     let kept = up .before in
-    cc (
-      result32 (power kept .before .power-in),
-      result64 (power kept .widened),
-      held32 (start (power kept) .args .k .target) (search needs),
-      result64 (kept .widened2),
-      result64 (up .up-of),
-      result64 (down .down-of),
-    )
+    let s = start (power kept) in
+    basis-is (power-is (power kept))
+    (result64 (kept .widened2) ∙ kept .widened2 .ensures ∙ target-is s)
+    (result64 (up .up-of) ∙ up .up-of .ensures)
+    (result64 (down .down-of) ∙ down .down-of .ensures)
+    refl
+    (doubtful c .before .unit-rate .ensures ∙ ap (rate-at (s .args .f)) (power-is (power kept)))
+    (doubtful c .is-doubtful .ensures ∙ ap isDoubtful (reading (power kept) .power .ensures))
+    (c .before .is-capped .ensures)
+    (c .is-unidirectional .ensures)
 
 pub unit-basis-spec : {M : Type 1} → statement M
 unit-basis-spec =

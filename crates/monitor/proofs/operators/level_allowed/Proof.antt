@@ -23,7 +23,7 @@ size-requires c κs = rw (wide-is c) (size32 (c .before .args .level) (c .before
 
 returns : tie.Need-returns
 unfolding allowedLevel
-returns c = cc (wide-is (c .before), level-is (c .before .before))
+returns c = rw (c .size .ensures, wide-is (c .before), level-is (c .before .before))
 
 pub level-allowed-spec : {M : Type 1} → statement M
 level-allowed-spec = tie.close (tie.spec widened-requires size-requires returns)
