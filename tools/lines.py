@@ -49,6 +49,11 @@ def in_blocks(pieces, most):
     return bytes(out)
 
 
+def printed(label, answer):
+    """What a case prints. Its answer is one line, or a list of lines, which may be empty."""
+    return "".join(f"{label}: {words}\n" for words in ([answer] if isinstance(answer, str) else answer))
+
+
 def write_or_check(arguments, usage, crate, cases, blocks=1):
     """Writes stdin and stdout of the crate, or with --check says which differs. A case: label, what the program reads, answer.
 
@@ -60,7 +65,7 @@ def write_or_check(arguments, usage, crate, cases, blocks=1):
     assert all(labels), "a label is empty"
     assert len(labels) == len(set(labels)), "a label stands twice"
     given = in_blocks((labelled(label) + content for label, content, _ in cases), blocks)
-    text = "".join(f"{label}: {answer}\n" for label, _, answer in cases)
+    text = "".join(printed(label, answer) for label, _, answer in cases)
     made = {crate / "stdin": given, crate / "stdout": text.encode("ascii")}
     if arguments:
         differing = [path for path, content in made.items() if not path.is_file() or path.read_bytes() != content]

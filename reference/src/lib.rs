@@ -4,17 +4,20 @@
 //!
 //! - [`register`]: register bytes to a [`Plant`], refusals 1 to 7 and 30, visits
 //! - [`line`]: one 40-byte line, readable or not, and a float as whole kW
-//! - [`marks`]: rate of change, triggers, errors, the mark of a unit and of an aggregate
+//! - [`marks`]: rate of change, triggers, errors, the mark of a unit, the pass that marks an aggregate
 //! - [`monitor`]: the state; load, interval, declare, reinstate, look; the report
 //!
-//! Around it: [`program`] and [`replay`] print what the calls answer, [`random_calls`] and [`bench_input`] make input.
+//! Around it: [`program`] and [`replay`] print what the calls answer, [`passes`] what the pass over an aggregate's members
+//! returns; [`random_calls`], [`random_passes`] and [`bench_input`] make input.
 
 pub mod bench_input;
 pub mod line;
 pub mod marks;
 pub mod monitor;
+pub mod passes;
 pub mod program;
 pub mod random_calls;
+pub mod random_passes;
 pub mod refusal;
 pub mod register;
 pub mod replay;

@@ -159,10 +159,9 @@ impl Side {
     }
 }
 
-/// An aggregate, member by member.
+/// Sums over the members of an aggregate, all of them readable.
 #[derive(Clone, Copy)]
-pub struct Aggregate {
-    unreadable: bool,
+struct Sums {
     modes_zero: bool,
     /// A member with quality 2 or nothing kept.
     missing: bool,
@@ -176,10 +175,9 @@ pub struct Aggregate {
     load: Side,
 }
 
-impl Default for Aggregate {
+impl Default for Sums {
     fn default() -> Self {
         Self {
-            unreadable: false,
             modes_zero: true,
             missing: false,
             substituted: false,
@@ -194,13 +192,9 @@ impl Default for Aggregate {
     }
 }
 
-impl Aggregate {
+impl Sums {
     #[inline(always)]
-    pub fn add(&mut self, kind: Kind, line: Option<&Line>, kept: Option<&Kept>) {
-        let Some(line) = line else {
-            self.unreadable = true;
-            return;
-        };
+    fn add(&mut self, kind: Kind, line: &Line, kept: Option<&Kept>) {
         self.modes_zero &= line.mode == 0;
         let (Some(kept), Quality::Good | Quality::Substituted) = (kept, line.quality) else {
             self.missing = true;
@@ -227,10 +221,7 @@ impl Aggregate {
     }
 
     #[inline(always)]
-    pub fn assess(&self) -> Assessment {
-        if self.unreadable {
-            return Assessment::without_error(Mark::Blank);
-        }
+    fn assess(&self) -> Assessment {
         if self.modes_zero {
             return Assessment::without_error(Mark::Off);
         }
@@ -247,6 +238,38 @@ impl Aggregate {
             self.substituted,
         )
     }
+}
+
+/// What an aggregate's pass looks at in one member; None is unreadable, and nothing kept or stale.
+#[derive(Clone, Copy, PartialEq, Eq, Debug)]
+pub struct Member {
+    pub kind: Kind,
+    pub line: Option<Line>,
+    pub kept: Option<Kept>,
+}
+
+/// What the pass over an aggregate's members returns.
+#[derive(Clone, Copy, PartialEq, Eq, Debug)]
+pub struct Pass {
+    pub assessment: Assessment,
+    /// Members looked at: the place of the first unreadable one, counted from 1, or the length of the chain.
+    pub looked: u32,
+}
+
+/// The pass over an aggregate's members, given in chain order. It ends at the first unreadable one: the aggregate is BLANK
+/// then, its sums are not used, and no later member is taken from the iterator.
+#[inline(always)]
+pub fn assess_aggregate(members: &mut impl Iterator<Item = Member>) -> Pass {
+    let mut sums = Sums::default();
+    let mut looked = 0;
+    for Member { kind, line, kept } in members {
+        looked += 1;
+        let Some(line) = line else {
+            return Pass { assessment: Assessment::without_error(Mark::Blank), looked };
+        };
+        sums.add(kind, &line, kept.as_ref());
+    }
+    Pass { assessment: sums.assess(), looked }
 }
 
 /// The mark of the second of two successive lines of a unit in no chain; 6 for an unknown kind or a line that is not
@@ -279,6 +302,17 @@ mod tests {
         ramp_down: 3_000,
     };
     const KEPT: Kept = Kept { target: 100_000, raise: 5_000, lower: 0, cap_flag: 0 };
+
+    fn good(kind: Kind, line: Line) -> Member {
+        Member { kind, line: Some(line), kept: Some(KEPT) }
+    }
+
+    /// The assessment of a pass that looks at all members.
+    fn whole(members: &[Member]) -> Assessment {
+        let Pass { assessment, looked } = assess_aggregate(&mut members.iter().copied());
+        assert_eq!(looked as usize, members.len());
+        assessment
+    }
 
     fn unit(kind: Kind, line: Line) -> (Mark, i32) {
         let found = assess_unit(kind, false, Some(&line), Some(&KEPT));
@@ -420,11 +454,12 @@ mod tests {
         assert_eq!(mark(true, Some(&ORDINARY), Some(&KEPT)), Mark::Clear);
         assert_eq!(mark(false, Some(&bad_off), Some(&KEPT)), Mark::Blank);
         let aggregate = |lines: &[(Option<&Line>, Option<&Kept>)]| {
-            let mut sums = Aggregate::default();
-            for &(line, kept) in lines {
-                sums.add(Kind::Generating, line, kept);
-            }
-            sums.assess().mark
+            let member = |&(line, kept): &(Option<&Line>, Option<&Kept>)| Member {
+                kind: Kind::Generating,
+                line: line.copied(),
+                kept: kept.copied(),
+            };
+            assess_aggregate(&mut lines.iter().map(member)).assessment.mark
         };
         assert_eq!(aggregate(&[(Some(&bad_off), None), (None, None)]), Mark::Blank);
         assert_eq!(aggregate(&[(Some(&bad_off), None), (Some(&bad_off), Some(&KEPT))]), Mark::Off);
@@ -456,11 +491,8 @@ mod tests {
             assert_eq!(capped.level, floored);
             // An aggregate adds the signed MW of its members and not their levels.
             let aggregate = |kinds: &[Kind]| {
-                let mut sums = Aggregate::default();
-                for &kind in kinds {
-                    sums.add(kind, Some(&line), Some(&KEPT));
-                }
-                sums.assess().level
+                let members: Vec<Member> = kinds.iter().map(|&kind| good(kind, line)).collect();
+                whole(&members).level
             };
             assert_eq!(aggregate(&[Kind::Generating]), power);
             assert_eq!(aggregate(&[Kind::Bidirectional]), power);
@@ -494,11 +526,11 @@ mod tests {
             ..ORDINARY
         };
         let found = |power| {
-            let mut sums = Aggregate::default();
-            sums.add(Kind::Generating, Some(&Line { power, ..generating }), Some(&KEPT));
-            sums.add(Kind::Load, Some(&load), Some(&KEPT));
-            sums.add(Kind::Load, Some(&load), Some(&KEPT));
-            sums.assess()
+            whole(&[
+                good(Kind::Generating, Line { power, ..generating }),
+                good(Kind::Load, load),
+                good(Kind::Load, load),
+            ])
         };
         // Target above: generating up 7,000, loads down 6,000.
         assert_eq!(found(90_000).trigger, 1_400_000);
@@ -517,10 +549,7 @@ mod tests {
         // MWO from the loads, ROC from the generating side.
         let generating = Line { availability: 100_000, ramp_up: 8_000, ramp_down: 8_000, ..ORDINARY };
         let load = Line { availability: 900_000, ramp_up: 100, ramp_down: 100, ..ORDINARY };
-        let mut sums = Aggregate::default();
-        sums.add(Kind::Generating, Some(&generating), Some(&KEPT));
-        sums.add(Kind::Load, Some(&load), Some(&KEPT));
-        assert_eq!(sums.assess().trigger, 1_600_000);
+        assert_eq!(whole(&[good(Kind::Generating, generating), good(Kind::Load, load)]).trigger, 1_600_000);
     }
 
     #[test]
@@ -534,23 +563,96 @@ mod tests {
             ..ORDINARY
         };
         let kept = Kept { target: -2_000_000, raise: 0, lower: 2_000_000, cap_flag: 0 };
-        let mut sums = Aggregate::default();
-        for _ in 0..64 {
-            sums.add(Kind::Bidirectional, Some(&line), Some(&kept));
-        }
-        let found = sums.assess();
+        let found = whole(&[Member { kind: Kind::Bidirectional, line: Some(line), kept: Some(kept) }; 64]);
         assert_eq!(
             (found.mark, found.error, found.trigger, found.level),
             (Mark::Large, 256_000_000, 384_000_000, 128_000_000)
         );
         let low = Line { power: -2_000_000, ..line };
         let kept = Kept { target: 2_000_000, raise: 2_000_000, lower: 0, cap_flag: 0 };
-        let mut sums = Aggregate::default();
-        for _ in 0..64 {
-            sums.add(Kind::Bidirectional, Some(&low), Some(&kept));
-        }
-        let found = sums.assess();
+        let found = whole(&[Member { kind: Kind::Bidirectional, line: Some(low), kept: Some(kept) }; 64]);
         assert_eq!((found.mark, found.error, found.level), (Mark::Large, -256_000_000, -128_000_000));
+    }
+
+    const UNREADABLE: Member = Member { kind: Kind::Generating, line: None, kept: Some(KEPT) };
+
+    /// Looks at the members; the second value is how many the pass took from the iterator.
+    fn taken(members: &[Member]) -> (Pass, usize) {
+        let mut rest = members.iter();
+        let pass = assess_aggregate(&mut rest.by_ref().copied());
+        (pass, members.len() - rest.len())
+    }
+
+    #[test]
+    fn pass_ends_at_the_first_unreadable_member() {
+        // Each member 6,000 kW past its kept target and raise. Alone it is at the trigger; from two on the triggers are
+        // 3,000 kW and 5,000 kW a member.
+        let line = Line { power: 111_000, ..ORDINARY };
+        let blank = |looked| (Pass { assessment: Assessment::without_error(Mark::Blank), looked }, looked as usize);
+        for length in [1, 2, 3, 4, 60, 64] {
+            let members = vec![good(Kind::Generating, line); length];
+            let n = length as i32;
+            let (mark, trigger) = if n == 1 { (Mark::Clear, 600_000) } else { (Mark::Large, 300_000 * n as u32) };
+            let assessment = Assessment { mark, error: 6_000 * n, trigger, level: 111_000 * n };
+            assert_eq!(taken(&members), (Pass { assessment, looked: length as u32 }, length));
+            for place in 1..=length {
+                let mut one = members.clone();
+                one[place - 1] = UNREADABLE;
+                assert_eq!(taken(&one), blank(place as u32));
+                // A second one, beyond or just behind, is not looked at.
+                for second in place..=length {
+                    let mut two = one.clone();
+                    two[second - 1] = UNREADABLE;
+                    assert_eq!(taken(&two), blank(place as u32));
+                }
+            }
+            assert_eq!(taken(&vec![UNREADABLE; length]), blank(1));
+        }
+    }
+
+    #[test]
+    fn readable_members_do_not_end_the_pass() {
+        let bad = good(Kind::Load, Line { quality: Quality::Bad, ..ORDINARY });
+        let substituted = good(Kind::Load, Line { quality: Quality::Substituted, ..ORDINARY });
+        let nothing_kept = Member { kept: None, ..good(Kind::Generating, ORDINARY) };
+        let mode_zero = good(Kind::Bidirectional, Line { mode: 0, ..ORDINARY });
+        let mode_zero_bad =
+            Member { kept: None, ..good(Kind::Load, Line { mode: 0, quality: Quality::Bad, ..ORDINARY }) };
+        let ordinary = good(Kind::Generating, ORDINARY);
+        for length in [1usize, 4, 60, 64] {
+            for place in [1, length.div_ceil(2), length] {
+                let with = |member| {
+                    let mut members = vec![ordinary; length];
+                    members[place - 1] = member;
+                    members
+                };
+                // BLANK by quality 2 or by nothing kept: the whole length.
+                for member in [bad, nothing_kept] {
+                    let (pass, took) = taken(&with(member));
+                    assert_eq!((pass.assessment, pass.looked), (Assessment::without_error(Mark::Blank), length as u32));
+                    assert_eq!(took, length);
+                }
+                for member in [bad, substituted, nothing_kept, mode_zero, mode_zero_bad] {
+                    let members = with(member);
+                    assert_eq!(taken(&members).0.looked, length as u32);
+                    // An unreadable one behind or before it ends the pass all the same.
+                    for unreadable in [1, length] {
+                        if unreadable != place {
+                            let mut members = members.clone();
+                            members[unreadable - 1] = UNREADABLE;
+                            let (pass, took) = taken(&members);
+                            assert_eq!((pass.assessment.mark, pass.looked), (Mark::Blank, unreadable as u32));
+                            assert_eq!(took, unreadable);
+                        }
+                    }
+                }
+            }
+            for (member, mark) in [(mode_zero, Mark::Off), (mode_zero_bad, Mark::Off), (bad, Mark::Blank)] {
+                let (pass, took) = taken(&vec![member; length]);
+                assert_eq!((pass.assessment, pass.looked), (Assessment::without_error(mark), length as u32));
+                assert_eq!(took, length);
+            }
+        }
     }
 
     #[test]

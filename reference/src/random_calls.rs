@@ -20,10 +20,10 @@ pub fn list(seed: u64) -> Vec<u8> {
 }
 
 /// splitmix64.
-struct Random(u64);
+pub(crate) struct Random(pub(crate) u64);
 
 impl Random {
-    fn next(&mut self) -> u64 {
+    pub(crate) fn next(&mut self) -> u64 {
         self.0 = self.0.wrapping_add(0x9E37_79B9_7F4A_7C15);
         let mut z = self.0;
         z = (z ^ (z >> 30)).wrapping_mul(0xBF58_476D_1CE4_E5B9);
@@ -31,24 +31,24 @@ impl Random {
         z ^ (z >> 31)
     }
 
-    fn below(&mut self, bound: usize) -> usize {
+    pub(crate) fn below(&mut self, bound: usize) -> usize {
         (self.next() % bound as u64) as usize
     }
 
-    fn within(&mut self, low: i64, high: i64) -> i64 {
+    pub(crate) fn within(&mut self, low: i64, high: i64) -> i64 {
         low + (self.next() % (high - low + 1) as u64) as i64
     }
 
     /// True in so many of a thousand.
-    fn chance(&mut self, thousandths: u64) -> bool {
+    pub(crate) fn chance(&mut self, thousandths: u64) -> bool {
         self.next() % 1000 < thousandths
     }
 
-    fn pick<T: Copy>(&mut self, values: &[T]) -> T {
+    pub(crate) fn pick<T: Copy>(&mut self, values: &[T]) -> T {
         values[self.below(values.len())]
     }
 
-    fn byte(&mut self) -> u8 {
+    pub(crate) fn byte(&mut self) -> u8 {
         self.next() as u8
     }
 }
@@ -134,19 +134,19 @@ impl Sketch {
 
 /// A line before it becomes bytes.
 #[derive(Clone, Copy)]
-struct Draft {
-    quality: u8,
-    mode: u8,
-    cap_flag: u8,
-    target: i64,
-    availability: u32,
-    raise: u32,
-    lower: u32,
-    bid_up: u32,
-    bid_down: u32,
-    power: i64,
-    scada_up: i64,
-    scada_down: i64,
+pub(crate) struct Draft {
+    pub(crate) quality: u8,
+    pub(crate) mode: u8,
+    pub(crate) cap_flag: u8,
+    pub(crate) target: i64,
+    pub(crate) availability: u32,
+    pub(crate) raise: u32,
+    pub(crate) lower: u32,
+    pub(crate) bid_up: u32,
+    pub(crate) bid_down: u32,
+    pub(crate) power: i64,
+    pub(crate) scada_up: i64,
+    pub(crate) scada_down: i64,
 }
 
 impl Draft {
@@ -161,7 +161,7 @@ impl Draft {
         }
     }
 
-    fn bytes(&self) -> [u8; 40] {
+    pub(crate) fn bytes(&self) -> [u8; 40] {
         let mut bytes = [0; 40];
         bytes[0] = self.quality;
         bytes[1] = self.mode;
@@ -174,8 +174,7 @@ impl Draft {
         put(20, self.bid_up);
         put(24, self.bid_down);
         for (at, kw) in [(28, self.power), (32, self.scada_up), (36, self.scada_down)] {
-            // The float nearest to a whole number of kW turns back into it.
-            put(at, ((kw as f64 / 1000.0) as f32).to_bits());
+            put(at, float_bits(kw));
         }
         bytes
     }
@@ -567,6 +566,13 @@ impl Author {
             buffer.extend(bytes);
             sent.push(kept.then_some((draft.target, draft.raise, draft.lower)));
         }
+        // Quality 2 at an earlier place of the chain than a damaged line.
+        for group in &sketch.groups {
+            let damaged = group.units.iter().rposition(|&unit| sent[unit].is_none()).unwrap_or(0);
+            if damaged > 0 && self.random.chance(80) {
+                buffer[8 + 40 * group.units[self.random.below(damaged)]] = 2;
+            }
+        }
         let mut report = 16 * (sketch.units.len() + sketch.aggregates) as u32;
         if self.random.chance(rough) {
             accepted = false;
@@ -843,10 +849,15 @@ impl Author {
     }
 }
 
-const UNREADABLE_POWERS: [u32; 8] =
+pub(crate) const UNREADABLE_POWERS: [u32; 8] =
     [0x44FA_0001, 0xC4FA_0001, 0x7FC0_0000, 0xFFC0_0000, 0x7F80_0000, 0xFF80_0000, 0x7F80_0001, 0x7F7F_FFFF];
-const UNREADABLE_RATES: [u32; 8] =
+pub(crate) const UNREADABLE_RATES: [u32; 8] =
     [0x44FA_0001, 0x8000_0001, 0x7FC0_0000, 0x7F80_0000, 0xFF80_0000, 0xBF80_0000, 0xFFFF_FFFF, 0x807F_FFFF];
+
+/// Bits of the float nearest to a whole number of kW; it turns back into that number.
+pub(crate) fn float_bits(kw: i64) -> u32 {
+    ((kw as f64 / 1000.0) as f32).to_bits()
+}
 
 fn random_word(points: u32) -> u32 {
     points.wrapping_mul(0x9E37_79B1) | 0x100

@@ -587,6 +587,44 @@ fn members_and_their_aggregate() {
 }
 
 #[test]
+fn members_beyond_an_unreadable_one() {
+    // Chain 3 1 4 2 5; unit 6 in none.
+    let mut monitor = Monitor::new();
+    let units = [(1, 4), (2, 5), (1, 1), (3, 2), (1, 0), (1, 0)];
+    assert_eq!(monitor.load(&register([2, 3, 4, 2, 3, 4], &units, &[3])), Ok(5));
+    let mut interval = |number, lines: [[u8; 40]; 6]| {
+        let mut report = [0; 7 * 16];
+        monitor.interval(&buffer(number, 1, &lines), &mut report).unwrap();
+        report.as_chunks().0.iter().map(Record::of).map(|record| record.mark).collect::<Vec<_>>()
+    };
+    let on_target = || {
+        let mut lines = [member(100.0, 2); 6];
+        lines[5] = line(100.0);
+        lines
+    };
+    let unreadable = with(member(100.0, 2), 2, 1);
+    assert_eq!(interval(1, on_target()), [1; 7]);
+    assert_eq!(interval(2, on_target()), [2; 7]);
+    let mut number = 2;
+    for place in [3, 1, 4, 2, 5] {
+        // The others are marked and kept, before that place and beyond it; a second one unreadable beyond changes its own.
+        for second in [place, 5] {
+            let mut lines = on_target();
+            (lines[place - 1], lines[second - 1]) = (unreadable, unreadable);
+            let mut marks = [2; 7];
+            (marks[place - 1], marks[second - 1], marks[6]) = (1, 1, 1);
+            number += 1;
+            assert_eq!(interval(number, lines), marks);
+            // Nothing is kept for it alone.
+            number += 1;
+            assert_eq!(interval(number, on_target()), marks);
+            number += 1;
+            assert_eq!(interval(number, on_target()), [2; 7]);
+        }
+    }
+}
+
+#[test]
 fn the_kept_cap_flag_counts() {
     let mut one = One::of_kind(4, [2, 3, 9, 2, 3, 9]);
     // Nothing kept: BLANK, whatever the flags.

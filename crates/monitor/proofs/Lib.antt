@@ -1,6 +1,5 @@
--- What belongs to no one function. For the calls: States, Passes, Surveys, Numbers, Verdicts, Operated and Refusals. For demand 3: the rest.
+-- What belongs to no one function. For the calls: States, Surveys, Numbers, Verdicts, Operated and Refusals. For demand 3: the rest.
 pub mod States
-pub mod Passes
 pub mod Surveys
 pub mod Numbers
 pub mod Verdicts

@@ -34,12 +34,11 @@ use Rattle.aggregates.proofs.Small.{wider, member-more, no-sums-small, aggregat
 use Rattle.marks.proofs.Thresholds.{small-bounded}
 use Rattle.points.specs.declared.Point.{Point}
 use Rattle.points.proofs.Levels.{level-after}
-use Rattle.monitor.specs.Plants.{total, placesOf}
+use Rattle.monitor.specs.Plants.{total, place, placesOf}
 use Rattle.monitor.specs.Assessments.{headerOf, isAutomatic, ruleOf, sightAt, assessmentAt}
 use Rattle.monitor.specs.Monitors.{keptAt, pointAt, soundOf}
 use Rattle.monitor.specs.Intervals.{freshIn, assessmentIn, pointAfter}
 use Rattle.monitor.specs.declared.Monitor.{Monitor}
-use Rattle.monitor.proofs.Passes.{rest}
 use Rattle.monitor.proofs.States.{next-in, head-in, sight-small}
 
 -- the four bytes that the report has for each of these are enough
@@ -89,7 +88,8 @@ sums-assessed s b =
 -- the sums along a chain: each step adds at most 2,000,000
 module _ (next : List ℕ) (units : ℕ) (sight : ℕ → Sight) where
   chain-small : ((i : ℕ) → i < units → getD next i 0 ≤ units) → ((i : ℕ) → i < units → SmallSight (sight i))
-      → (left unit : ℕ) (s : Sums) {n : ℕ} → unit ≤ units → SmallSums n s → SmallSums (n + 2000000 * left) (rest next sight s left unit)
+      → (left unit : ℕ) (s : Sums) {n : ℕ} → unit ≤ units → SmallSums n s
+      → SmallSums (n + 2000000 * left) (addMembers s (map sight (map place (chain next left unit))))
   unfolding chain
   chain-small inside seen zero unit s h b = wider (omega arith) b
   chain-small inside seen (suc left) zero s h b = wider (omega arith) b

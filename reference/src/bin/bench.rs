@@ -1,4 +1,4 @@
-//! `bench COUNT [PLANT]`: COUNT intervals from memory for plant 0 to 3, or for all four; prints name, digest and ns per
+//! `bench COUNT [PLANT]`: COUNT intervals from memory for plant 0 to 5, or for all six; prints name, digest and ns per
 //! interval.
 //!
 //! The input and the digest are defined in `bench_input`, for ports. Timed: patching the header, the interval call
@@ -13,7 +13,7 @@ fn main() -> ExitCode {
     let arguments: Vec<Option<u64>> = std::env::args().skip(1).map(|text| text.parse().ok()).collect();
     let (count, plants) = match arguments[..] {
         [Some(count)] => (count, &PLANTS[..]),
-        [Some(count), Some(plant @ 0..=3)] => (count, &PLANTS[plant as usize..=plant as usize]),
+        [Some(count), Some(plant @ 0..=5)] => (count, &PLANTS[plant as usize..=plant as usize]),
         _ => {
             eprintln!("bench COUNT [PLANT]");
             return ExitCode::from(2);

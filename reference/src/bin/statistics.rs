@@ -1,9 +1,11 @@
-//! `statistics FIRST LAST`: what the random lists of these seeds reach; fails when something stays rare.
+//! `statistics FIRST LAST`: what the random lists of these seeds reach, and what the random passes of seeds 1 to 8 reach; fails
+//! when something stays rare.
 
-use conformance::line::{Kind, Line, LINE};
+use conformance::line::{Kind, Line, Quality, LINE};
+use conformance::marks::{assess_aggregate, Member, Pass};
 use conformance::monitor::{Record, HEADER, NON_CONFORMING, NOT_RESPONDING, PENDING};
 use conformance::replay::{Call, Calls, MAX_REPORT};
-use conformance::{random_calls, Look, Mark, Monitor, Plant, Refusal};
+use conformance::{passes, random_calls, random_passes, Look, Mark, Monitor, Plant, Refusal};
 use std::collections::BTreeMap;
 use std::process::ExitCode;
 
@@ -14,6 +16,18 @@ const SEMI_SCHEDULED: &str = "semi-scheduled";
 const LEVELS: [i32; 9] = [i32::MIN, -128_000_001, -128_000_000, -1, 0, 1, 128_000_000, 128_000_001, i32::MAX];
 /// Least count of each thing for the check to pass.
 const LEAST: u64 = 100;
+/// Seeds of the random passes.
+const PASS_SEEDS: std::ops::RangeInclusive<u64> = 1..=8;
+/// What is asked of the passes over members, in lists of calls and for themselves.
+const PASSES: [&str; 7] = [
+    "ended at the first place of two or more",
+    "ended at a middle place",
+    "ended at the last place of two or more",
+    "looked at all, none unreadable",
+    "left an unreadable member beyond its end",
+    "went past quality 2 and ended at an unreadable member",
+    "went past quality 2 and looked at all",
+];
 
 /// Counts under a name.
 #[derive(Default)]
@@ -116,6 +130,60 @@ fn count_semi_scheduled(counts: &mut Counts, bytes: &[u8; LINE], kept: Option<Li
             }
         }
         _ => {}
+    }
+}
+
+/// Counts where the pass over these members ended, and what it went past. Returns what it returned.
+fn count_pass(counts: &mut Counts, name: &str, members: &[Member]) -> Pass {
+    let mut add = |what: &str| counts.add(format!("{name} {what}"));
+    let pass = assess_aggregate(&mut members.iter().copied());
+    let (looked_at, beyond) = members.split_at(pass.looked as usize);
+    let unreadable = |member: &Member| member.line.is_none();
+    let ended = looked_at.last().is_some_and(unreadable);
+    match (looked_at.len(), beyond.len()) {
+        _ if !ended => add("looked at all, none unreadable"),
+        (1, 0) => {}
+        (1, _) => add("ended at the first place of two or more"),
+        (_, 0) => add("ended at the last place of two or more"),
+        _ => add("ended at a middle place"),
+    }
+    if beyond.iter().any(unreadable) {
+        add("left an unreadable member beyond its end");
+    }
+    if looked_at.iter().any(|member| member.line.is_some_and(|line| line.quality == Quality::Bad)) {
+        add(if ended {
+            "went past quality 2 and ended at an unreadable member"
+        } else {
+            "went past quality 2 and looked at all"
+        });
+    }
+    pass
+}
+
+/// Counts what the random passes reach.
+fn count_random_passes(counts: &mut Counts) {
+    for seed in PASS_SEEDS {
+        for case in passes::cases(&random_passes::blocks(seed)) {
+            let chains = case.chains();
+            counts.answer("passes: register", &chains);
+            for members in chains.iter().flatten() {
+                let pass = count_pass(counts, "passes: pass", members);
+                counts.add(format!("passes: mark {}", MARKS[pass.assessment.mark as usize]));
+                let length = members.len();
+                let mut add = |what: &str| counts.add(format!("passes: chain of {length}, {what}"));
+                if ![1, 60, 64].contains(&length) {
+                    continue;
+                }
+                match (members[pass.looked as usize - 1].line, pass.looked as usize) {
+                    (Some(_), _) => add("none unreadable"),
+                    (None, 1) => add("the first unreadable"),
+                    _ => {}
+                }
+                if members[length - 1].line.is_none() && pass.looked as usize == length {
+                    add("the last unreadable");
+                }
+            }
+        }
     }
 }
 
@@ -223,6 +291,17 @@ fn main() -> ExitCode {
                         kept.fill(None);
                     }
                     last_number = Some(number);
+                    let Some(plant) = monitor.plant() else { continue };
+                    let lines: &[[u8; LINE]] = buffer[HEADER..].as_chunks().0;
+                    let read = |unit: usize| Line::read(&lines[unit], plant.kind(unit), is_member(plant, unit));
+                    for aggregate in 0..plant.aggregates() {
+                        let members = plant.members(aggregate).iter().map(|&unit| {
+                            let unit = usize::from(unit);
+                            let kept = kept[unit].map(|line: Line| line.kept());
+                            Member { kind: plant.kind(unit), line: read(unit), kept }
+                        });
+                        count_pass(&mut counts, "pass", &members.collect::<Vec<_>>());
+                    }
                     for (point, record) in report.as_chunks::<16>().0.iter().enumerate() {
                         let class = class[point];
                         let record = Record::of(record);
@@ -240,14 +319,13 @@ fn main() -> ExitCode {
                         }
                         if record.status == NON_CONFORMING && before[point].status != NON_CONFORMING {
                             counts.add(format!("{class} declared by an interval"));
-                            if let Some(plant) = monitor.plant() {
-                                count_declared(&mut counts, plant, point, buffer[HEADER..].as_chunks().0);
-                            }
+                            count_declared(&mut counts, plant, point, lines);
                         }
                         if class == SEMI_SCHEDULED {
-                            let line = &buffer[HEADER..].as_chunks().0[point];
-                            count_semi_scheduled(&mut counts, line, kept[point], before[point], record);
-                            kept[point] = Line::read(line, Kind::SemiScheduled, false);
+                            count_semi_scheduled(&mut counts, &lines[point], kept[point], before[point], record);
+                        }
+                        if point < plant.units() {
+                            kept[point] = read(point);
                         }
                         if record.small == 255 {
                             counts.add(format!("{class} small run 255"));
@@ -284,6 +362,7 @@ fn main() -> ExitCode {
             }
         }
     }
+    count_random_passes(&mut counts);
     println!("seeds {first} to {last}: {bytes} bytes, longest list {longest}");
     for (name, count) in &counts.0 {
         println!("{count:>9} {name}");
@@ -361,6 +440,16 @@ fn main() -> ExitCode {
     wanted.push("interval declares, aggregate, a member of kind 1 or 2 below 0".into());
     wanted.push("declare refused 10, level below 0".into());
     wanted.push("declare refused 20, level below 0".into());
+    for what in PASSES {
+        wanted.push(format!("pass {what}"));
+        wanted.push(format!("passes: pass {what}"));
+    }
+    wanted.extend(MARKS.iter().map(|mark| format!("passes: mark {mark}")));
+    for length in [1, 60, 64] {
+        for what in ["the first unreadable", "the last unreadable", "none unreadable"] {
+            wanted.push(format!("passes: chain of {length}, {what}"));
+        }
+    }
     wanted.push("script error".into());
     wanted.push("interval jump".into());
     let rare: Vec<&String> = wanted.iter().filter(|name| counts.0.get(*name).copied().unwrap_or(0) < LEAST).collect();

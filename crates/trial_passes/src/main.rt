@@ -1,0 +1,189 @@
+// Reads registers and units' lines as `tools/trial_passes.py` writes them and prints what a pass over each aggregate's members gives.
+ghost use Prim.Native.Nat.{_+_, _*_, _<_, _≤_};
+ghost use mathlib.Core.Path.{_≡_};
+ghost use mathlib.Core.Bool.{true};
+ghost use lib.ListN.{length};
+ghost use Rattle.register.specs.Plants.{plantSound};
+ghost use Rattle.marks.specs.Bounds.{SmallSight};
+ghost use Rattle.passes.specs.Seen.{Seen};
+use marks::Sight;
+use passes::Pass;
+use register::Answer;
+use register::Plant;
+use telemetry::Line;
+
+// ---- what is seen of the units
+
+// The sample at place n, of which each has 81 bytes: 1 where a line is kept, this interval's line and the one before it.
+fn sight_at(samples: &[u8], n: usize, kind: u8, chained: bool) -> Sight
+    requires { ⌜ (n < 256) × (81 * n + 81 ≤ length (now samples)) ⌝ }
+    ensures { λ r. ⌜ SmallSight r ⌝ }
+{
+    let at = 81 * n;
+    let line = at + 1;
+    let before = at + 41;
+    let end = at + 81;
+    trials::sight_of(
+        kind,
+        chained,
+        &samples[line..before],
+        samples[at] == 1,
+        &samples[before..end],
+    )
+}
+
+// Which of the given samples the unit at place i has. Picks come round again, and so do samples.
+fn picked(picks: &[u8], i: usize, given: usize) -> usize
+    requires { ⌜ (1 ≤ length (now picks)) × (1 ≤ given) ⌝ }
+    ensures { λ r. ⌜ r < given ⌝ }
+{
+    trials::size(picks[i % picks.len()]) % given
+}
+
+fn no_sight() -> Sight
+    ensures { λ r. ⌜ SmallSight r ⌝ }
+{
+    Sight {
+        kind: 0,
+        line: Line::Unreadable,
+        kept: marks::nothing_kept(),
+    }
+}
+
+fn sights(plant: Plant, samples: &[u8], given: usize, picks: &[u8]) -> [Sight; 64]
+    requires { ⌜ plantSound plant ≡ true ⌝ }
+    requires { ⌜ (81 * given ≤ length (now samples)) × (1 ≤ given) × (given < 256) × (1 ≤ length (now picks)) ⌝ }
+    ensures { λ r. ⌜ Seen plant r ⌝ }
+{
+    let units = plant.units;
+    let mut seen = [no_sight(); 64];
+    let mut i = 0;
+    while i < units {
+        let n = picked(picks, i, given);
+        seen[i] = sight_at(samples, n, plant.kinds[i], plant.chained[i]);
+        i += 1;
+    }
+    seen
+}
+
+// ---- what is printed of a case
+
+fn print_refused(label: &[u8], number: u32) {
+    let mut out = io::buffer();
+    let mut next = text::put_bytes(&mut out, 0, label);
+    next = text::put_numbered(&mut out, next, b": refused", number as u64);
+    output::write(b"trial_passes: standard output", &out, next);
+}
+
+// The aggregate's number, its assessment, and how many members were looked at.
+fn print_pass(label: &[u8], aggregate: usize, pass: Pass) {
+    let assessment = pass.assessment;
+    let mut out = io::buffer();
+    let mut next = text::put_bytes(&mut out, 0, label);
+    next = text::put_bytes(&mut out, next, b": ");
+    next = text::put_number(&mut out, next, aggregate as u64);
+    next = text::put_bytes(&mut out, next, b" ");
+    next = trials::put_assessment(&mut out, next, assessment);
+    next = text::put_numbered(&mut out, next, b"", pass.looked as u64);
+    output::write(b"trial_passes: standard output", &out, next);
+}
+
+fn print_passes(label: &[u8], plant: Plant, seen: [Sight; 64])
+    requires { ⌜ Seen plant seen ⌝ }
+{
+    let aggregates = plant.aggregates;
+    let mut j = 0;
+    while j < aggregates {
+        print_pass(label, j + 1, passes::assess_aggregate(plant, seen, j));
+        j += 1;
+    }
+}
+
+fn print_case(label: &[u8], bytes: &[u8], samples: &[u8], given: usize, picks: &[u8])
+    requires { ⌜ (81 * given ≤ length (now samples)) × (1 ≤ given) × (given < 256) × (1 ≤ length (now picks)) ⌝ }
+{
+    let registered = register::read_register(bytes);
+    let answer = registered.answer;
+    let plant = registered.plant;
+    match answer {
+        Answer::Accepted(_) => {
+            if register::plant_sound(plant) {
+                print_passes(label, plant, sights(plant, samples, given, picks));
+            }
+        }
+        Answer::Refused(number) => print_refused(label, number),
+    }
+}
+
+// ---- cases
+
+// Runs a case from what stands behind its register, samples with their number and picks with theirs, and answers how many bytes they
+// have.
+fn run_units(label: &[u8], bytes: &[u8], rest: &[u8]) -> usize
+    requires { ⌜ 1 ≤ length (now rest) ⌝ }
+    ensures { λ r. ⌜ r ≤ length (now (rest .entry)) ⌝ }
+{
+    let given = trials::size(rest[0]);
+    let sampled = 1 + 81 * given;
+    let picks = sampled + 1;
+    if rest.len() < picks {
+        return rest.len();
+    }
+    let count = trials::size(rest[sampled]);
+    let end = picks + count;
+    if rest.len() < end {
+        return rest.len();
+    }
+    if given < 1 {
+        return rest.len();
+    }
+    if count < 1 {
+        return rest.len();
+    }
+    print_case(label, bytes, &rest[1..sampled], given, &rest[picks..end]);
+    end
+}
+
+// Runs the case at `at`, and answers where the next one starts. A case is a label with its length before it, a register with its
+// length in two bytes, the low one first, and what `run_units` reads. No label is empty: a zero ends the cases of a block.
+fn run_case(cases: &[u8], at: usize) -> usize
+    requires { ⌜ at < length (now cases) ⌝ }
+    ensures { λ r. ⌜ at < r ⌝ }
+{
+    let label = at + 1;
+    let from = label + trials::size(cases[at]);
+    if from == label {
+        return cases.len();
+    }
+    let register = from + 2;
+    if cases.len() < register {
+        return cases.len();
+    }
+    let end = register + trials::size(cases[from]) + 256 * trials::size(cases[from + 1]);
+    if cases.len() <= end {
+        return cases.len();
+    }
+    end + run_units(&cases[label..from], &cases[register..end], &cases[end..])
+}
+
+fn run_cases(cases: &[u8]) {
+    let mut at = 0;
+    while at < cases.len() {
+        at = run_case(cases, at);
+    }
+}
+
+// The cases of a block of standard input. No case stands in two; zeros fill a block that another follows.
+fn run_block() {
+    let mut buffer = io::large_buffer();
+    let n = io::read_full(0, &mut buffer);
+    run_cases(&buffer[..n]);
+}
+
+fn main() {
+    let mut blocks: u8 = 0;
+    while blocks < 4 {
+        run_block();
+        blocks += 1;
+    }
+}
