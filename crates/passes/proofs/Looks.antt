@@ -1,18 +1,16 @@
--- What a pass over a list of members gives, one member at a time, and what 02, 2026-03 says of it. Assumes nothing.
-use mathlib.Core.Path.{_≡_, refl, sym, ap, _∙_}
-use mathlib.Core.Bool.{Bool, true, false, cond}
-use mathlib.Core.List.{List, [], _∷_, _++_}
-use Prim.Native.Nat.{ℕ, zero, suc, _+_, _≤_}
+-- A pass over a list of members, one at a time, from the sums and the count so far. Assumes nothing.
+use mathlib.Core.Path.{_≡_, refl, _∙_}
+use mathlib.Core.Bool.{true, false}
+use mathlib.Core.List.{List, [], _∷_}
+use Prim.Native.Nat.{ℕ, suc, _+_}
 use native.Mathlib.Omega.{arith}
-use lib.ListN.{length}
 use Rattle.telemetry.specs.declared.Line.{Line}
 use Rattle.telemetry.specs.declared.Line.the-variants.{Readable, Unreadable}
 use Rattle.marks.specs.Assessments.{without}
 use Rattle.marks.specs.declared.Kept.{Kept}
 use Rattle.marks.specs.declared.Mark.the-variants.{Blank}
-use Rattle.marks.specs.declared.Assessment.{Assessment}
 use Rattle.marks.specs.declared.Sight.{Sight}
-use Rattle.aggregates.specs.Aggregates.{addFlags, addReadable, addUnreadable, addLine, addMember, addMembers, noSums, sumsAssessment, aggregateAssessment}
+use Rattle.aggregates.specs.Aggregates.{addFlags, addReadable, addUnreadable, addLine, addMember, addMembers, noSums, sumsAssessment}
 use Rattle.aggregates.specs.declared.Sums.{Sums}
 use Rattle.passes.specs.Passes.{isReadable, lookedAt, passOver, whole, early}
 use Rattle.passes.specs.declared.Pass.{Pass}

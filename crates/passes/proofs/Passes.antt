@@ -15,8 +15,7 @@ use Rattle.aggregates.specs.Sizes.{SmallSums}
 use Rattle.aggregates.specs.declared.Sums.{Sums}
 use Rattle.aggregates.proofs.Small.{member-more, wider, no-sums-small}
 use Rattle.passes.specs.Passes.{isReadable, passOver, whole, early}
-use Rattle.passes.specs.Seen.{seenAt, unitSeen, membersSeen, Seen}
-use Rattle.passes.specs.declared.Pass.{Pass}
+use Rattle.passes.specs.Seen.{unitSeen, membersSeen, Seen}
 use Rattle.passes.proofs.Looks.{passFrom, member-readable, from-start, from-end, from-more, from-unreadable}
 
 -- the members that are left, as they are seen

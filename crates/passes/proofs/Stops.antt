@@ -9,7 +9,7 @@ use Rattle.trace.proofs.Tests.{and-l, and-r}
 use Rattle.marks.specs.declared.Sight.{Sight}
 use Rattle.aggregates.specs.Aggregates.{addMember, addMembers, noSums}
 use Rattle.aggregates.specs.declared.Sums.{Sums}
-use Rattle.passes.specs.Passes.{isReadable, lookedAt, passOver, whole, early}
+use Rattle.passes.specs.Passes.{isReadable, passOver, whole, early}
 use Rattle.passes.proofs.Looks.{passFrom, member-readable, from-start, from-end, from-more, from-unreadable}
 
 abbrev pub allReadable : List Sight → Bool

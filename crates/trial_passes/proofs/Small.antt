@@ -6,7 +6,7 @@ use lib.ListN.{getD, set, replicate}
 use Rattle.marks.specs.Bounds.{SmallSight}
 use Rattle.marks.specs.declared.Sight.{Sight}
 use Rattle.marks.proofs.Small.{nothing-small}
-use Rattle.passes.specs.Seen.{anySight, seenAt}
+use Rattle.passes.specs.Seen.{anySight}
 
 -- ---- what holds of every entry of a list, and of what stands past its end
 

@@ -2,7 +2,6 @@
 use native.Mathlib.Omega.{arith}
 use borrow.Author.Needs.{needs}
 use Prim.Native.Nat.{_-_, _≤_}
-use Rattle.register.proofs.Soundness.{sound-aggregates}
 use Rattle.trial_passes.proofs.print_passes.Statement.{statement}
 use Rattle.trial_passes.proofs.print_passes.Tie as tie
 
