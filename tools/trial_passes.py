@@ -8,7 +8,8 @@ Each case is a register with one interval's lines and the lines before them. For
 small trigger, level and how many members the pass looked at, by hand from 01, "Triggers and errors" and "Marks and runs", and
 02, 2026-03: the place in the chain, from 1, of the first member whose line is unreadable, or the chain's length if there is
 none. The arithmetic stands beside it. The monitor's code is never run. Powers, levels and rates are in kW, triggers in
-hundredths of a kW. A refused register answers its refusal; one without aggregates prints nothing.
+hundredths of a kW. A refused register answers its refusal; one without aggregates prints nothing. The cases have a mark as its
+word; `numbered` puts the report's number for it (01) in its place, which is what the program prints.
 
 A case is read as: label with its length; the register with its length in two bytes; samples with their number in a byte; picks
 with theirs. A sample is a byte, 1 where a line is kept, this interval's line and the line before. Unit u has sample
@@ -26,6 +27,7 @@ from trial_marks import APART, BAD, BIDIRECTIONAL, GENERATING, LOAD, NOTHING, SE
 CRATE = pathlib.Path(__file__).resolve().parent.parent / "crates" / "trial_passes"
 BLOCKS = 4
 LENGTHS = (2, 3, 4, 2, 3, 4)  # run lengths, which play no part here
+MARKS = {"OFF": 0, "BLANK": 1, "CLEAR": 2, "DOUBT": 3, "SMALL": 4, "LARGE": 5}  # 01, the report
 
 cases = []  # label, what the program reads, a line for each aggregate
 
@@ -104,14 +106,19 @@ def units_of(chains, count=None, kinds=None):
     return register(LENGTHS, units, [chain[0] for chain in chains])
 
 
+def numbered(answers):
+    """The lines of aggregates from their answers, with the aggregate's number, and the mark's in place of its word."""
+    parted = [answer.split(" ", 1) for answer in answers]
+    return [f"{number} {MARKS[mark]} {rest}" for number, (mark, rest) in enumerate(parted, 1)]
+
+
 def passes(label, chains, answers, others, sent=None, count=None, kinds=None):
     """Aggregates from their chains. `sent`: samples of some units; the others have the one given before it."""
     assert len(chains) == len(answers), label
     registered, sent = units_of(chains, count, kinds), sent or {}
     by_unit = [sent.get(unit, others) for unit in range(1, registered[0] + 1)]
     samples = [*dict.fromkeys(by_unit)]
-    numbered = [f"{number} {answer}" for number, answer in enumerate(answers, 1)]
-    put(label, registered, numbered, samples, [samples.index(one) for one in by_unit])
+    put(label, registered, numbered(answers), samples, [samples.index(one) for one in by_unit])
 
 
 def one_pass(label, chain, answer, others, sent=None, count=None, kinds=None):
@@ -816,7 +823,7 @@ def samples_and_picks():
     """How a case is read: which sample is a unit's, and what is kept."""
 
     def picked(label, chain, answer, samples, picks):
-        put(f"picks: {label}", units_of([chain]), [f"1 {answer}"], samples, picks)
+        put(f"picks: {label}", units_of([chain]), numbered([answer]), samples, picks)
 
     two = [ON_TARGET, UNREADABLE]
     picked("one for 64 units", rising(64), CLEAR_64, two, [0])

@@ -19,11 +19,11 @@
 //! read as that unit's line: nothing if it is unreadable.
 //!
 //! Printed, for an accepted register, is a line for each aggregate in order, counted from 1: `LABEL: J MARK ERROR TRIGGER
-//! LEVEL LOOKED`, what the pass returns; for a refused one `LABEL: refused N`. A case that is cut off, or has G or P of 0,
-//! ends the block and prints nothing.
+//! LEVEL LOOKED`, what the pass returns, the mark by its number in the report; for a refused one `LABEL: refused N`. A case
+//! that is cut off, or has G or P of 0, ends the block and prints nothing.
 
 use crate::line::{Kept, Kind, Line, LINE};
-use crate::marks::{assess_aggregate, Mark, Member, Pass};
+use crate::marks::{assess_aggregate, Member, Pass};
 use crate::refusal::Refusal;
 use crate::register::Plant;
 use std::io::{self, Write};
@@ -104,7 +104,7 @@ impl<'a> Case<'a> {
             Ok(chains) => chains.iter().zip(1..).try_for_each(|(chain, number)| {
                 let Pass { assessment, looked } = assess_aggregate(&mut chain.iter().copied());
                 out.write_all(self.label)?;
-                write!(out, ": {number} {} {} ", name(assessment.mark), assessment.error)?;
+                write!(out, ": {number} {} {} ", assessment.mark as u8, assessment.error)?;
                 writeln!(out, "{} {} {looked}", assessment.trigger, assessment.level)
             }),
         }
@@ -119,17 +119,6 @@ pub(crate) fn read_sample(sample: &[u8; SAMPLE], kind: Kind) -> (Option<Line>, O
         Line::read(&bytes, kind, true)
     });
     (line, before.filter(|_| sample[0] == KEPT).map(|before| before.kept()))
-}
-
-fn name(mark: Mark) -> &'static str {
-    match mark {
-        Mark::Off => "OFF",
-        Mark::Blank => "BLANK",
-        Mark::Clear => "CLEAR",
-        Mark::Doubt => "DOUBT",
-        Mark::Small => "SMALL",
-        Mark::Large => "LARGE",
-    }
 }
 
 /// The cases of all blocks. Bytes behind the last block are left aside.
@@ -230,8 +219,8 @@ mod tests {
                     }
                     text(&case("x", &register, &samples, &picks))
                 };
-                let blank = |looked: usize| format!("x: 1 BLANK 0 0 0 {looked}\n");
-                let clear = format!("x: 1 CLEAR 0 {} {} {length}\n", 600_000.max(300_000 * length), 100_000 * length);
+                let blank = |looked: usize| format!("x: 1 1 0 0 0 {looked}\n");
+                let clear = format!("x: 1 2 0 {} {} {length}\n", 600_000.max(300_000 * length), 100_000 * length);
                 assert_eq!(found(&[]), clear);
                 let middle = length.div_ceil(2);
                 for place in [1, middle, length] {
@@ -262,10 +251,7 @@ mod tests {
         // Unit 1: unreadable; 2: a load, on target; 3: 12 MW high; 7: unreadable.
         let printed = text(&case("a b", &register, &[good, high, unreadable], &[2, 0, 1, 0, 1, 0, 2]));
         // Aggregate 1: 112 - 100 against 100 - 100 with 10 up; its greater side has MWO 100,000.
-        assert_eq!(
-            printed,
-            "a b: 1 CLEAR 2000 600000 12000 2\na b: 2 LARGE 7000 600000 112000 1\na b: 3 BLANK 0 0 0 2\n"
-        );
+        assert_eq!(printed, "a b: 1 2 2000 600000 12000 2\na b: 2 5 7000 600000 112000 1\na b: 3 1 0 0 0 2\n");
     }
 
     #[test]
@@ -273,16 +259,16 @@ mod tests {
         let register = register(&[(1, 0)], &[1]);
         let found = |first, line, before| text(&case("k", &register, &[sample(first, line, before)], &[0]));
         let off = with(line(120.0), 1, 0);
-        let blank = "k: 1 BLANK 0 0 0 1\n";
-        assert_eq!(found(1, line(120.0), line(7.0)), "k: 1 LARGE 15000 600000 120000 1\n");
-        assert_eq!(found(1, with(line(120.0), 0, 1), line(7.0)), "k: 1 DOUBT 15000 600000 120000 1\n");
-        assert_eq!(found(1, off, line(7.0)), "k: 1 OFF 0 0 0 1\n");
+        let blank = "k: 1 1 0 0 0 1\n";
+        assert_eq!(found(1, line(120.0), line(7.0)), "k: 1 5 15000 600000 120000 1\n");
+        assert_eq!(found(1, with(line(120.0), 0, 1), line(7.0)), "k: 1 3 15000 600000 120000 1\n");
+        assert_eq!(found(1, off, line(7.0)), "k: 1 0 0 0 0 1\n");
         // The quality and the mode of the line before play no part, its floats only unless its quality is 2.
         let before = with(with(with(line(7.0), 0, 2), 1, 1), 31, 0xFF);
-        assert_eq!(found(1, line(120.0), before), "k: 1 LARGE 15000 600000 120000 1\n");
+        assert_eq!(found(1, line(120.0), before), "k: 1 5 15000 600000 120000 1\n");
         for first in [0, 2, 3, 255] {
             assert_eq!(found(first, line(120.0), line(7.0)), blank);
-            assert_eq!(found(first, off, line(7.0)), "k: 1 OFF 0 0 0 1\n");
+            assert_eq!(found(first, off, line(7.0)), "k: 1 0 0 0 0 1\n");
         }
         assert_eq!(found(1, line(120.0), with(line(7.0), 3, 1)), blank);
         // A negative target is readable for kind 3 alone, in the line before too.
@@ -292,7 +278,7 @@ mod tests {
             bytes
         };
         let samples = [sample(1, line(-100.0), negative(0.0)), sample(1, negative(-100.0), negative(0.0))];
-        for (kind, printed) in [(1, "BLANK 0 0 0"), (2, "BLANK 0 0 0"), (3, "CLEAR 0 600000 -100000")] {
+        for (kind, printed) in [(1, "1 0 0 0"), (2, "1 0 0 0"), (3, "2 0 600000 -100000")] {
             for pick in [0, 1] {
                 let found = text(&case("n", &chain(&[kind], &[1]), &samples, &[pick]));
                 assert_eq!(found, format!("n: 1 {printed} 1\n"));
@@ -307,20 +293,20 @@ mod tests {
         // Falling chain of 5; picks 0 0 1 0 0: unit 3, at place 3.
         let register = chain(&[1; 5], &[5, 4, 3, 2, 1]);
         let found = |samples: &[[u8; SAMPLE]], picks: &[u8]| text(&case("p", &register, samples, picks));
-        assert_eq!(found(&[good, unreadable], &[0, 0, 1]), "p: 1 BLANK 0 0 0 3\n");
+        assert_eq!(found(&[good, unreadable], &[0, 0, 1]), "p: 1 1 0 0 0 3\n");
         // Picks 1 0 1 0 1: unit 5, at place 1.
-        assert_eq!(found(&[good, unreadable], &[1, 0]), "p: 1 BLANK 0 0 0 1\n");
+        assert_eq!(found(&[good, unreadable], &[1, 0]), "p: 1 1 0 0 0 1\n");
         // More picks than units; 255 % 2 is 1, 254 % 3 is 2.
-        assert_eq!(found(&[good, unreadable], &[0, 255, 0, 0, 0, 1, 1]), "p: 1 BLANK 0 0 0 4\n");
-        assert_eq!(found(&[good, good, unreadable], &[0, 1, 253, 255, 252]), "p: 1 CLEAR 0 1500000 500000 5\n");
-        assert_eq!(found(&[good, good, unreadable], &[254, 1, 253, 255, 252]), "p: 1 BLANK 0 0 0 5\n");
+        assert_eq!(found(&[good, unreadable], &[0, 255, 0, 0, 0, 1, 1]), "p: 1 1 0 0 0 4\n");
+        assert_eq!(found(&[good, good, unreadable], &[0, 1, 253, 255, 252]), "p: 1 2 0 1500000 500000 5\n");
+        assert_eq!(found(&[good, good, unreadable], &[254, 1, 253, 255, 252]), "p: 1 1 0 0 0 5\n");
     }
 
     #[test]
     fn blocks_and_their_ends() {
         let good = [sample(1, line(100.0), line(100.0))];
         let one = case("one", &chain(&[1], &[1]), &good, &[9]);
-        let printed = "one: 1 CLEAR 0 600000 100000 1\n";
+        let printed = "one: 1 2 0 600000 100000 1\n";
         assert_eq!(text(&[]), "");
         assert_eq!(text(&[0; 10]), "");
         assert_eq!(text(&one), printed);

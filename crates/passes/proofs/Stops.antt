@@ -2,14 +2,14 @@
 use mathlib.Core.Path.{_≡_, refl, sym, ap, _∙_}
 use mathlib.Core.Bool.{Bool, true, false, _&&_}
 use mathlib.Core.List.{List, [], _∷_, _++_}
-use Prim.Native.Nat.{ℕ, _+_}
+use Prim.Native.Nat.{ℕ, suc, _+_, _≤_}
 use native.Mathlib.Omega.{arith}
 use lib.ListN.{length}
-use Rattle.trace.proofs.Tests.{and-l, and-r}
+use Rattle.trace.proofs.Tests.{and-l, and-r, chosen}
 use Rattle.marks.specs.declared.Sight.{Sight}
 use Rattle.aggregates.specs.Aggregates.{addMember, addMembers, noSums}
 use Rattle.aggregates.specs.declared.Sums.{Sums}
-use Rattle.passes.specs.Passes.{isReadable, passOver, whole, early}
+use Rattle.passes.specs.Passes.{isReadable, lookedAt, passOver, whole, early}
 use Rattle.passes.proofs.Looks.{passFrom, member-readable, from-start, from-end, from-more, from-unreadable}
 
 abbrev pub allReadable : List Sight → Bool
@@ -67,3 +67,16 @@ pub pass-early : (before : List Sight) (v : Sight) (after : List Sight) → allR
 pass-early before v after e u =
     let n : 0 + length before + 1 ≡ length before + 1 = omega arith in
     sym (from-start (before ++ (v ∷ after))) ∙ from-early noSums 0 before v after refl e u ∙ ap early n
+
+-- ---- so many at most, and at least one where there is a member
+
+pub looked-most : (members : List Sight) → lookedAt members ≤ length members
+unfolding lookedAt
+looked-most [] = omega arith
+looked-most (v ∷ vs) =
+    let h = looked-most vs in
+    chosen (λ (n : ℕ). n ≤ length (v ∷ vs)) (isReadable (v .line)) (suc (lookedAt vs)) 1 (omega arith) (omega arith)
+
+pub looked-least : (v : Sight) (vs : List Sight) → 1 ≤ lookedAt (v ∷ vs)
+unfolding lookedAt
+looked-least v vs = chosen (λ (n : ℕ). 1 ≤ n) (isReadable (v .line)) (suc (lookedAt vs)) 1 (omega arith) (omega arith)

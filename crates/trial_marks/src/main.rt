@@ -5,15 +5,55 @@ ghost use Rattle.marks.specs.Bounds.{SmallSight};
 ghost use Rattle.aggregates.specs.Sizes.{SmallSums};
 use aggregates::Sums;
 use marks::Assessment;
+use marks::Mark;
 use marks::Sight;
+
+fn put_mark(out: &mut [u8], at: usize, mark: Mark) -> usize {
+    match mark {
+        Mark::Off => text::put_bytes(out, at, b"OFF"),
+        Mark::Blank => text::put_bytes(out, at, b"BLANK"),
+        Mark::Clear => text::put_bytes(out, at, b"CLEAR"),
+        Mark::Doubt => text::put_bytes(out, at, b"DOUBT"),
+        Mark::Small => text::put_bytes(out, at, b"SMALL"),
+        Mark::Large => text::put_bytes(out, at, b"LARGE"),
+    }
+}
+
+// A space and a signed number.
+fn put_whole(out: &mut [u8], at: usize, z: i32) -> usize {
+    let next = text::put_bytes(out, at, b" ");
+    text::put_whole(out, next, z)
+}
+
+fn put_assessment(out: &mut [u8], at: usize, a: Assessment) -> usize {
+    let mark = a.mark;
+    let mut next = put_mark(out, at, mark);
+    next = put_whole(out, next, a.error);
+    next = text::put_bytes(out, next, b" ");
+    next = text::put_number(out, next, a.trigger as u64);
+    put_whole(out, next, a.level)
+}
 
 fn print_case(label: &[u8], assessment: Assessment) {
     let mut out = io::buffer();
     let mut next = text::put_bytes(&mut out, 0, label);
     next = text::put_bytes(&mut out, next, b": ");
-    next = trials::put_assessment(&mut out, next, assessment);
+    next = put_assessment(&mut out, next, assessment);
     next = text::put_bytes(&mut out, next, b"\n");
     output::write(b"trial_marks: standard output", &out, next);
+}
+
+// A unit at this interval's line, and at the one before it where that is kept.
+fn sight_of(kind: u8, chained: bool, line: &[u8], is_kept: bool, before: &[u8]) -> Sight
+    ensures { λ r. ⌜ SmallSight r ⌝ }
+{
+    let line = telemetry::read_line(kind, chained, line);
+    let kept = if is_kept {
+        marks::kept_from(telemetry::read_line(kind, chained, before))
+    } else {
+        marks::nothing_kept()
+    };
+    Sight { kind, line, kept }
 }
 
 // The unit that starts at `at`: its kind, 1 where a line is kept, this interval's line and the one before it.
@@ -24,7 +64,7 @@ fn sight_at(units: &[u8], at: usize, chained: bool) -> Sight
     let line = at + 2;
     let before = at + 42;
     let end = at + 82;
-    trials::sight_of(
+    sight_of(
         units[at],
         chained,
         &units[line..before],
@@ -59,6 +99,12 @@ fn assess(form: u8, units: &[u8], given: usize, count: usize) -> Assessment
     sums_of(units, given, count).assess()
 }
 
+fn size(b: u8) -> usize
+    ensures { λ r. ⌜ r < 256 ⌝ }
+{
+    b as usize
+}
+
 // The case that starts at `at`, and where the next one starts: a label with its length before it, its form, how many units it
 // has, and how many are given, which follow.
 fn one(cases: &[u8], at: usize) -> usize
@@ -66,13 +112,13 @@ fn one(cases: &[u8], at: usize) -> usize
     ensures { λ r. ⌜ at < r ⌝ }
 {
     let label = at + 1;
-    let form = label + trials::size(cases[at]);
+    let form = label + size(cases[at]);
     let units = form + 3;
     if cases.len() < units {
         return cases.len();
     }
-    let count = trials::size(cases[form + 1]);
-    let given = trials::size(cases[form + 2]);
+    let count = size(cases[form + 1]);
+    let given = size(cases[form + 2]);
     let end = units + 82 * given;
     if cases.len() < end {
         return cases.len();

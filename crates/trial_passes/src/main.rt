@@ -12,7 +12,31 @@ use register::Answer;
 use register::Plant;
 use telemetry::Line;
 
+fn size(b: u8) -> usize
+    ensures { λ r. ⌜ r < 256 ⌝ }
+{
+    b as usize
+}
+
 // ---- what is seen of the units
+
+fn sight_of(kind: u8, chained: bool, line: &[u8], before: &[u8]) -> Sight
+    ensures { λ r. ⌜ SmallSight r ⌝ }
+{
+    Sight {
+        kind,
+        line: telemetry::read_line(kind, chained, line),
+        kept: marks::kept_from(telemetry::read_line(kind, chained, before)),
+    }
+}
+
+// Where the line before ends. Where none is kept it has no bytes, which is an unreadable line, so that nothing is.
+fn line_end(before: usize, is_kept: bool) -> usize
+    requires { ⌜ before < 65536 ⌝ }
+    ensures { λ r. ⌜ (before ≤ r) × (r ≤ before + 40) ⌝ }
+{
+    if is_kept { before + 40 } else { before }
+}
 
 // The sample at place n, of which each has 81 bytes: 1 where a line is kept, this interval's line and the one before it.
 fn sight_at(samples: &[u8], n: usize, kind: u8, chained: bool) -> Sight
@@ -20,16 +44,10 @@ fn sight_at(samples: &[u8], n: usize, kind: u8, chained: bool) -> Sight
     ensures { λ r. ⌜ SmallSight r ⌝ }
 {
     let at = 81 * n;
-    let line = at + 1;
+    let from = at + 1;
     let before = at + 41;
-    let end = at + 81;
-    trials::sight_of(
-        kind,
-        chained,
-        &samples[line..before],
-        samples[at] == 1,
-        &samples[before..end],
-    )
+    let end = line_end(before, samples[at] == 1);
+    sight_of(kind, chained, &samples[from..before], &samples[before..end])
 }
 
 // Which of the given samples the unit at place i has. Picks come round again, and so do samples.
@@ -37,7 +55,7 @@ fn picked(picks: &[u8], i: usize, given: usize) -> usize
     requires { ⌜ (1 ≤ length (now picks)) × (1 ≤ given) ⌝ }
     ensures { λ r. ⌜ r < given ⌝ }
 {
-    trials::size(picks[i % picks.len()]) % given
+    size(picks[i % picks.len()]) % given
 }
 
 fn no_sight() -> Sight
@@ -75,15 +93,30 @@ fn print_refused(label: &[u8], number: u32) {
     output::write(b"trial_passes: standard output", &out, next);
 }
 
-// The aggregate's number, its assessment, and how many members were looked at.
+// A space and a number.
+fn put_number(out: &mut [u8], at: usize, n: u64) -> usize {
+    let next = text::put_bytes(out, at, b" ");
+    text::put_number(out, next, n)
+}
+
+// A space and a signed number.
+fn put_whole(out: &mut [u8], at: usize, z: i32) -> usize {
+    let next = text::put_bytes(out, at, b" ");
+    text::put_whole(out, next, z)
+}
+
+// The aggregate's number, its mark as the report has it, error, trigger and level, and how many members were looked at.
 fn print_pass(label: &[u8], aggregate: usize, pass: Pass) {
-    let assessment = pass.assessment;
+    let found = pass.assessment;
+    let mark = found.mark;
     let mut out = io::buffer();
     let mut next = text::put_bytes(&mut out, 0, label);
-    next = text::put_bytes(&mut out, next, b": ");
-    next = text::put_number(&mut out, next, aggregate as u64);
-    next = text::put_bytes(&mut out, next, b" ");
-    next = trials::put_assessment(&mut out, next, assessment);
+    next = text::put_bytes(&mut out, next, b":");
+    next = put_number(&mut out, next, aggregate as u64);
+    next = put_number(&mut out, next, marks::mark_number(mark) as u64);
+    next = put_whole(&mut out, next, found.error);
+    next = put_number(&mut out, next, found.trigger as u64);
+    next = put_whole(&mut out, next, found.level);
     next = text::put_numbered(&mut out, next, b"", pass.looked as u64);
     output::write(b"trial_passes: standard output", &out, next);
 }
@@ -123,13 +156,13 @@ fn run_units(label: &[u8], bytes: &[u8], rest: &[u8]) -> usize
     requires { ⌜ 1 ≤ length (now rest) ⌝ }
     ensures { λ r. ⌜ r ≤ length (now (rest .entry)) ⌝ }
 {
-    let given = trials::size(rest[0]);
+    let given = size(rest[0]);
     let sampled = 1 + 81 * given;
     let picks = sampled + 1;
     if rest.len() < picks {
         return rest.len();
     }
-    let count = trials::size(rest[sampled]);
+    let count = size(rest[sampled]);
     let end = picks + count;
     if rest.len() < end {
         return rest.len();
@@ -151,7 +184,7 @@ fn run_case(cases: &[u8], at: usize) -> usize
     ensures { λ r. ⌜ at < r ⌝ }
 {
     let label = at + 1;
-    let from = label + trials::size(cases[at]);
+    let from = label + size(cases[at]);
     if from == label {
         return cases.len();
     }
@@ -159,7 +192,7 @@ fn run_case(cases: &[u8], at: usize) -> usize
     if cases.len() < register {
         return cases.len();
     }
-    let end = register + trials::size(cases[from]) + 256 * trials::size(cases[from + 1]);
+    let end = register + size(cases[from]) + 256 * size(cases[from + 1]);
     if cases.len() <= end {
         return cases.len();
     }

@@ -1,8 +1,8 @@
--- `trials::sight_of` meets its contract. Assumes nothing.
+-- `trial_marks::sight_of` meets its contract. Assumes nothing.
 use borrow.Author.Needs.{needs}
 use Rattle.marks.proofs.Small.{line-small, kept-small, nothing-small}
-use Rattle.trials.proofs.sight_of.Statement.{statement}
-use Rattle.trials.proofs.sight_of.Tie as tie
+use Rattle.trial_marks.proofs.sight_of.Statement.{statement}
+use Rattle.trial_marks.proofs.sight_of.Tie as tie
 
 read-line-requires : tie.Need-read-line-requires
 read-line-requires c κs = search needs
