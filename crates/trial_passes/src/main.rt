@@ -132,6 +132,7 @@ fn print_passes(label: &[u8], plant: Plant, seen: [Sight; 64])
     }
 }
 
+// An accepted plant is sound; the test of it here stands for a proof.
 fn print_case(label: &[u8], bytes: &[u8], samples: &[u8], given: usize, picks: &[u8])
     requires { ⌜ (81 * given ≤ length (now samples)) × (1 ≤ given) × (given < 256) × (1 ≤ length (now picks)) ⌝ }
 {
