@@ -10,7 +10,6 @@ use marks::Sight;
 use passes::Pass;
 use register::Answer;
 use register::Plant;
-use telemetry::Line;
 
 fn size(b: u8) -> usize
     ensures { λ r. ⌜ r < 256 ⌝ }
@@ -58,23 +57,14 @@ fn picked(picks: &[u8], i: usize, given: usize) -> usize
     size(picks[i % picks.len()]) % given
 }
 
-fn no_sight() -> Sight
-    ensures { λ r. ⌜ SmallSight r ⌝ }
-{
-    Sight {
-        kind: 0,
-        line: Line::Unreadable,
-        kept: marks::nothing_kept(),
-    }
-}
-
 fn sights(plant: Plant, samples: &[u8], given: usize, picks: &[u8]) -> [Sight; 64]
     requires { ⌜ plantSound plant ≡ true ⌝ }
     requires { ⌜ (81 * given ≤ length (now samples)) × (1 ≤ given) × (given < 256) × (1 ≤ length (now picks)) ⌝ }
     ensures { λ r. ⌜ Seen plant r ⌝ }
 {
     let units = plant.units;
-    let mut seen = [no_sight(); 64];
+    // No member is past the last unit, so anything may stand there.
+    let mut seen = [sight_at(samples, 0, 0, false); 64];
     let mut i = 0;
     while i < units {
         let n = picked(picks, i, given);

@@ -17,14 +17,14 @@ abbrev μ-loop : tie.MeasureT-loop
 abbrev start : tie.At-loop Inv-loop μ-loop → tie.Start Inv-loop μ-loop
 start c = c .before .before .before .before
 
-abbrev turn : tie.After-sight-at Inv-loop μ-loop → tie.At-loop Inv-loop μ-loop
+abbrev turn : tie.After-sight-at2 Inv-loop μ-loop → tie.At-loop Inv-loop μ-loop
 turn c = c .before .before .before .before .before
 
-no-sight-requires : tie.Need-no-sight-requires Inv-loop μ-loop
-no-sight-requires c κs = search needs
+sight-at-requires : tie.Need-sight-at-requires Inv-loop μ-loop
+sight-at-requires c κs = omega arith
 
 loop-holds : tie.Need-loop-holds Inv-loop μ-loop
-loop-holds c = (omega arith, sound-units _ (c .before .before .before .pre .0), sights-none _ (c .no-sight .ensures))
+loop-holds c = (omega arith, sound-units _ (c .before .before .before .pre .0), sights-none _ (c .sight-at .ensures))
 
 picked-requires : tie.Need-picked-requires Inv-loop μ-loop
 picked-requires c κs = search needs
@@ -35,8 +35,8 @@ element-copy-out-sight-at c = omega arith
 element-copy-out-sight-at-2 : tie.Need-element-copy-out-sight-at-2 Inv-loop μ-loop
 element-copy-out-sight-at-2 c = omega arith
 
-sight-at-requires : tie.Need-sight-at-requires Inv-loop μ-loop
-sight-at-requires c κs = search needs
+sight-at-requires-2 : tie.Need-sight-at-requires-2 Inv-loop μ-loop
+sight-at-requires-2 c κs = search needs
 
 mul-seen : tie.Need-mul-seen Inv-loop μ-loop
 mul-seen c = omega arith
@@ -53,7 +53,7 @@ loop-less c = omega arith
 loop-again : tie.Need-loop-again Inv-loop μ-loop
 loop-again c =
     let t = turn c in
-    (omega arith, omega arith, sights-more (t .loop .seen) (t .loop .i) _ (c .sight-at .ensures) (t .loop .inv .2))
+    (omega arith, omega arith, sights-more (t .loop .seen) (t .loop .i) _ (c .sight-at2 .ensures) (t .loop .inv .2))
 
 returns : tie.Need-returns Inv-loop μ-loop
 unfolding seenAt
@@ -67,12 +67,12 @@ sights-spec =
     (tie.spec
     Inv-loop
     μ-loop
-    no-sight-requires
+    sight-at-requires
     loop-holds
     picked-requires
     element-copy-out-sight-at
     element-copy-out-sight-at-2
-    sight-at-requires
+    sight-at-requires-2
     mul-seen
     array-set-from-seen
     add-i
