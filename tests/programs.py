@@ -1,11 +1,11 @@
 #!/usr/bin/env python3
-"""What the two programs do with their descriptors, on data folders of tests/.
+"""What the three programs do with their descriptors, on data folders of tests/.
 
-    programs.py BIN    BIN is the folder of monitor_main and replay
+    programs.py BIN    BIN is the folder of monitor_main, replay and response_day
 
-- A write that fails ends the run, with one line on standard error.
-- An interval, and a call of a list, is answered in one write.
-- Nothing is held back: an answer can be read before the next interval or call is sent.
+- A write that fails ends the run, with one line on standard error that names the program and standard output.
+- An interval, a call of a list, and a day, is answered in one write.
+- Nothing is held back by monitor_main and replay: an answer can be read before the next interval or call is sent.
 """
 
 import contextlib
@@ -65,6 +65,11 @@ def call_answers(folder):
     return re.findall(rb"[a-z].*\n(?:[0-9].*\n)*", (folder / "expected").read_bytes())
 
 
+def day_answers(folder):
+    """A day's one line."""
+    return [(folder / "expected").read_bytes()]
+
+
 # ---- runs
 
 
@@ -94,7 +99,7 @@ def failed_write(program, folder):
             [program], cwd=work, stdin=subprocess.DEVNULL, stdout=full, stderr=subprocess.PIPE, timeout=SECONDS)
     said = ended.stderr
     ensure(said.count(b"\n") == 1 and said.endswith(b"\n"), f"{said.count(10)} lines on standard error, not one")
-    ensure(said.startswith(program.name.encode() + b": "), f"standard error begins {said[:20]!r}")
+    ensure(said.startswith(program.name.encode() + b": standard output"), f"standard error begins {said[:40]!r}")
     return "a write that fails ends the run, with one line on standard error"
 
 
@@ -136,8 +141,13 @@ def nothing_held_back(program, folder, file, sent, answers):
 
 def checks(programs):
     """Program and data folder of each check, and the check."""
-    monitor_main, replay = programs / "monitor_main", programs / "replay"
-    for program, folder in (monitor_main, TESTS / "program" / "largest"), (replay, TESTS / "calls" / "every_status"):
+    monitor_main, replay, response_day = programs / "monitor_main", programs / "replay", programs / "response_day"
+    for program, folder in (
+        (monitor_main, TESTS / "program" / "largest"),
+        (replay, TESTS / "calls" / "every_status"),
+        (response_day, TESTS / "days" / "three_events"),
+        (response_day, TESTS / "days" / "missing"),
+    ):
         yield program, folder, failed_write, ()
     for name in "largest", "chain", "refused_21":
         folder = TESTS / "program" / name
@@ -145,6 +155,9 @@ def checks(programs):
     for name in "every_status", "full_plant", "refusals_with_register", "script_late":
         folder = TESTS / "calls" / name
         yield replay, folder, one_write_each, (call_answers(folder),)
+    for name in "three_events", "largest_negative", "missing", "past_first_target_2000001":
+        folder = TESTS / "days" / name
+        yield response_day, folder, one_write_each, (day_answers(folder),)
     folder = TESTS / "program" / "chain"
     yield monitor_main, folder, nothing_held_back, ("intervals.bin", intervals(folder), interval_answers(folder))
     folder = TESTS / "calls" / "every_status"

@@ -7,8 +7,12 @@
 //! - [`marks`]: rate of change, triggers, errors, the mark of a unit, the pass that marks an aggregate
 //! - [`monitor`]: the state; load, interval, declare, reinstate, look; the report
 //!
-//! Around it: [`program`] and [`replay`] print what the calls answer, [`passes`] what the pass over an aggregate's members
-//! returns; [`random_calls`], [`random_passes`] and [`bench_input`] make input.
+//! Apart from the monitor, and without state:
+//!
+//! - [`response`]: one day of wholesale demand response, energy in Wh and errors in W; refusals 31 and 32
+//!
+//! Around them: [`program`] and [`replay`] print what the calls answer, [`passes`] what the pass over an aggregate's members
+//! returns; [`random_calls`], [`random_passes`], [`random_days`] and [`bench_input`] make input.
 
 pub mod bench_input;
 pub mod line;
@@ -17,10 +21,12 @@ pub mod monitor;
 pub mod passes;
 pub mod program;
 pub mod random_calls;
+pub mod random_days;
 pub mod random_passes;
 pub mod refusal;
 pub mod register;
 pub mod replay;
+pub mod response;
 
 pub use line::Kind;
 pub use marks::{unit_mark, Mark};

@@ -38,6 +38,10 @@ pub enum Refusal {
     NotDeclared = 23,
     /// Semi-scheduled unit in a chain.
     SemiScheduledMember = 30,
+    /// Day of demand response not of 288 records.
+    DayLength = 31,
+    /// Target above 2,000,000, or BSQ or ME beyond ±200,000,000, in a day of demand response.
+    DayValue = 32,
 }
 
 impl Refusal {

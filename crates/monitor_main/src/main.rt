@@ -3,7 +3,6 @@
 // What it prints of what it read is proved (crate `program`). Reading, writing and going on are left: no contract can say what a
 // file holds. A file that cannot be opened, or not read, counts as empty.
 ghost use lib.ListN.{length};
-ghost use Rattle.io.specs.Counts.{Counts};
 use monitor::Monitor;
 
 // Writes a step's text, the first bytes of `out`, in one write.
@@ -58,22 +57,10 @@ fn read_intervals(m: Monitor, out: &mut [u8; 8192]) {
 
 // ---- register.bin
 
-fn read_register(bytes: &mut [u8]) -> usize
-    ensures { λ r. ⌜ Counts r (now (bytes .exit)) ⌝ }
-{
-    let fd = os::open_read(b"register.bin");
-    if fd < 0 {
-        return 0;
-    }
-    let count = io::read_full(fd, bytes);
-    libc::close(fd);
-    count
-}
-
 // The longest register has 336 bytes, so with one byte more a longer file is seen to be too long.
 fn run_files(out: &mut [u8; 8192]) {
     let mut bytes = [0u8; 337];
-    let count = read_register(&mut bytes);
+    let count = input::read(b"register.bin", &mut bytes);
     let turn = program::start(&bytes[..count], out);
     let written = write(out, turn.length);
     if turn.more & written {

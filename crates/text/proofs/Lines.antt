@@ -10,8 +10,8 @@ use lib.Seq.{length-take-le}
 use Rattle.trace.specs.Sweeps.{records}
 use Rattle.trace.proofs.Sweeps.{records-rise}
 use Rattle.text.specs.Numbers.{decimalOf}
-use Rattle.text.specs.Lines.{lineOf, lineAt, linesOf, standingOf}
-use Rattle.text.specs.Pieces.{field, statusPiece, amountsPiece, runsPiece, levelPiece}
+use Rattle.text.specs.Lines.{lineOf, lineAt, linesOf, standingOf, dayLineOf}
+use Rattle.text.specs.Pieces.{field, statusPiece, amountsPiece, runsPiece, levelPiece, sumsPiece, countsPiece}
 use Rattle.text.specs.Puts.{Room, Put}
 use Rattle.text.proofs.Puts.{nothing, room-left, then, same-length}
 
@@ -23,6 +23,10 @@ line-pieces interval point r = simp append-assoc
 pub standing-pieces : (words : List ℕ) (status small large : ℕ) (level : ℤ)
     → standingOf words status small large level ≡ words ++ (runsPiece status small large ++ levelPiece level)
 standing-pieces words status small large level = simp append-assoc
+
+pub day-pieces : (response : ℤ) (target : ℕ) (flag : List ℕ) (under over : ℕ)
+    → dayLineOf response target flag under over ≡ sumsPiece response target ++ (field flag ++ countsPiece under over)
+day-pieces response target flag under over = simp append-assoc
 
 -- ---- the lines of a report: the first i are put
 

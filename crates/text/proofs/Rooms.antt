@@ -9,14 +9,14 @@ use lib.Dec.{leb}
 use lib.IntN.{ℤ, pos, negsuc}
 use lib.ListN.{length, getD, take, drop, length-append, length-drop}
 use lib.Seq.{getD-take, getD-drop, length-take-le}
-use mir.Syntax.{w32}
+use mir.Syntax.{w32, w64}
 use mir.Val.{SFits}
 use mir.ValLaws.{toZ-fits}
 use Rattle.trace.proofs.Sweeps.{records-at-most}
 use Rattle.wire.specs.Fields.{wordAt, wholeAt}
 use Rattle.wire.proofs.Laws.{four}
 use Rattle.text.specs.Numbers.{decimalOf, wholeOf}
-use Rattle.text.specs.Lines.{lineOf, lineAt, linesOf, numberedOf, standingOf}
+use Rattle.text.specs.Lines.{lineOf, lineAt, linesOf, numberedOf, standingOf, dayLineOf}
 use Rattle.text.specs.Puts.{Room, Put, PutWithin, hasRoom, longestLine, longestLines}
 use Rattle.text.proofs.Numbers.{length-decimal}
 
@@ -72,6 +72,12 @@ unfolding wholeOf
 whole-longest (pos n) f = let h : n < 2 ^ 31 = f .sfits in omega (arith, length-decimal 9 n (omega arith))
 whole-longest (negsuc n) f = let h : n < 2 ^ 31 = f .sfits in omega (arith, length-decimal 9 (suc n) (omega arith))
 
+-- the size of an i64 is at most 2 ^ 63
+pub long-longest : (z : ℤ) → SFits w64 z → length (wholeOf z) ≤ 20
+unfolding wholeOf
+long-longest (pos n) f = let h : n < 2 ^ 63 = f .sfits in omega (arith, length-decimal 18 n (omega arith))
+long-longest (negsuc n) f = let h : n < 2 ^ 63 = f .sfits in omega (arith, length-decimal 18 (suc n) (omega arith))
+
 -- ---- lines
 
 pub numbered-longest : (words : List ℕ) (n : ℕ) → n < 2 ^ 64 → length (numberedOf words n) ≤ length words + 22
@@ -82,6 +88,12 @@ pub standing-longest : (words : List ℕ) (status small large : ℕ) (level : �
 standing-longest words status small large level a b c d =
     simp length-append
     (omega (arith, byte-longest status a, byte-longest small b, byte-longest large c, whole-longest level d))
+
+pub day-longest : (response : ℤ) (target : ℕ) (flag : List ℕ) (under over : ℕ) → SFits w64 response → target < 2 ^ 32 → under < 2 ^ 32 → over < 2 ^ 32
+    → length (dayLineOf response target flag under over) ≤ length flag + 55
+day-longest response target flag under over a b c d =
+    simp length-append
+    (omega (arith, long-longest response a, word-longest target b, word-longest under c, word-longest over d))
 
 module _ (r : List ℕ) (long : 16 ≤ length r) (byte : (i : ℕ) → i < 16 → getD r i 0 < 256) where
   word-small : (at : ℕ) → at + 4 ≤ 16 → wordAt r at < 2 ^ 32

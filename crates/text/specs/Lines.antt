@@ -53,3 +53,8 @@ refusedOf number = numberedOf (ascii "refused") number
 abbrev pub standingOf : List ℕ → ℕ → ℕ → ℕ → ℤ → List ℕ
 standingOf words status small large level =
     line (words ∷ decimalOf status ∷ decimalOf small ∷ decimalOf large ∷ wholeOf level ∷ [])
+
+-- a day of wholesale demand response: "prints `D T FLAG UNDER OVER`"
+abbrev pub dayLineOf : ℤ → ℕ → List ℕ → ℕ → ℕ → List ℕ
+dayLineOf response target flag under over =
+    line (wholeOf response ∷ decimalOf target ∷ flag ∷ decimalOf under ∷ decimalOf over ∷ [])

@@ -33,3 +33,9 @@ runsPiece status small large = field (decimalOf status) ++ (field (decimalOf sma
 
 abbrev pub levelPiece : ℤ → List ℕ
 levelPiece level = field (wholeOf level) ++ (10 ∷ [])
+
+abbrev pub sumsPiece : ℤ → ℕ → List ℕ
+sumsPiece response target = wholeOf response ++ field (decimalOf target)
+
+abbrev pub countsPiece : ℕ → ℕ → List ℕ
+countsPiece under over = field (decimalOf under) ++ numberPiece over

@@ -4,9 +4,9 @@ ghost use Prim.Native.Nat.{_+_, _%_, _≤_, _<_};
 ghost use lib.ListN.{length, getD};
 ghost use Rattle.wire.specs.Fields.{wordAt, wholeAt};
 ghost use Rattle.text.specs.Numbers.{decimalOf, wholeOf};
-ghost use Rattle.text.specs.Lines.{lineOf, linesOf, numberedOf, standingOf};
+ghost use Rattle.text.specs.Lines.{lineOf, linesOf, numberedOf, standingOf, dayLineOf};
 ghost use Rattle.text.specs.Puts.{Room, Put};
-ghost use Rattle.text.specs.Pieces.{field, statusPiece, amountsPiece, numberPiece, runsPiece, levelPiece};
+ghost use Rattle.text.specs.Pieces.{field, statusPiece, amountsPiece, numberPiece, runsPiece, levelPiece, sumsPiece, countsPiece};
 
 // ---- words and numbers
 
@@ -55,15 +55,22 @@ fn put_negative(out: &mut [u8], at: usize, size: u64) -> usize
     put_number(out, digits, size)
 }
 
-pub(crate) fn put_whole(out: &mut [u8], at: usize, z: i32) -> usize
+fn put_long(out: &mut [u8], at: usize, z: i64) -> usize
     requires { ⌜ Room (now out) at (wholeOf z) ⌝ }
     ensures { λ r. ⌜ Put (now (out .entry)) at (wholeOf z) r (now (out .exit)) ⌝ }
 {
-    let size = signed::size(signed::widened(z));
+    let size = signed::size(z);
     if z < 0 {
         return put_negative(out, at, size);
     }
     put_number(out, at, size)
+}
+
+pub(crate) fn put_whole(out: &mut [u8], at: usize, z: i32) -> usize
+    requires { ⌜ Room (now out) at (wholeOf z) ⌝ }
+    ensures { λ r. ⌜ Put (now (out .entry)) at (wholeOf z) r (now (out .exit)) ⌝ }
+{
+    put_long(out, at, signed::widened(z))
 }
 
 // ---- fields of a line, each behind a space
@@ -216,4 +223,50 @@ pub(crate) fn put_standing(
     let runs = put_bytes(out, at, words);
     let last = put_runs(out, runs, status, small, large);
     put_level(out, last, level)
+}
+
+// ---- the line of a day of wholesale demand response
+
+// D and T.
+fn put_sums(out: &mut [u8], at: usize, response: i64, target: u32) -> usize
+    requires { ⌜ Room (now out) at (sumsPiece response target) ⌝ }
+    ensures { λ r. ⌜ Put (now (out .entry)) at (sumsPiece response target) r (now (out .exit)) ⌝ }
+{
+    let second = put_long(out, at, response);
+    put_field(out, second, target as u64)
+}
+
+// The flag in words.
+fn put_flag(out: &mut [u8], at: usize, flag: &[u8]) -> usize
+    requires { ⌜ Room (now out) at (field (now flag)) ⌝ }
+    ensures { λ r. ⌜ Put (now (out .entry)) at (field (now (flag .entry))) r (now (out .exit)) ⌝ }
+{
+    let words = put_byte(out, at, b' ');
+    put_bytes(out, words, flag)
+}
+
+// Both counts and the end of the line.
+fn put_counts(out: &mut [u8], at: usize, under: u32, over: u32) -> usize
+    requires { ⌜ Room (now out) at (countsPiece under over) ⌝ }
+    ensures { λ r. ⌜ Put (now (out .entry)) at (countsPiece under over) r (now (out .exit)) ⌝ }
+{
+    let second = put_field(out, at, under as u64);
+    put_last_number(out, second, over as u64)
+}
+
+pub(crate) fn put_day(
+    out: &mut [u8],
+    at: usize,
+    response: i64,
+    target: u32,
+    flag: &[u8],
+    under: u32,
+    over: u32,
+) -> usize
+    requires { ⌜ Room (now out) at (dayLineOf response target (now flag) under over) ⌝ }
+    ensures { λ r. ⌜ Put (now (out .entry)) at (dayLineOf response target (now (flag .entry)) under over) r (now (out .exit)) ⌝ }
+{
+    let words = put_sums(out, at, response, target);
+    let counts = put_flag(out, words, flag);
+    put_counts(out, counts, under, over)
 }

@@ -1,12 +1,13 @@
-//! `statistics FIRST LAST`: what the random lists of these seeds reach, and what the random passes of seeds 1 to 8 reach; fails
-//! when something stays rare.
+//! `statistics FIRST LAST`: what the random lists of these seeds reach, what the random passes of seeds 1 to 8 reach, and what the
+//! random days of seeds 1 to 2000 reach; fails when something stays rare.
 
 use conformance::line::{Kind, Line, Quality, LINE};
 use conformance::marks::{assess_aggregate, Member, Pass};
 use conformance::monitor::{Record, HEADER, NON_CONFORMING, NOT_RESPONDING, PENDING};
 use conformance::replay::{Call, Calls, MAX_REPORT};
-use conformance::{passes, random_calls, random_passes, Look, Mark, Monitor, Plant, Refusal};
-use std::collections::BTreeMap;
+use conformance::response::{self, Assessment, Flag};
+use conformance::{passes, random_calls, random_days, random_passes, Look, Mark, Monitor, Plant, Refusal};
+use std::collections::{BTreeMap, BTreeSet};
 use std::process::ExitCode;
 
 const MARKS: [&str; 6] = ["OFF", "BLANK", "CLEAR", "DOUBT", "SMALL", "LARGE"];
@@ -27,6 +28,81 @@ const PASSES: [&str; 7] = [
     "left an unreadable member beyond its end",
     "went past quality 2 and ended at an unreadable member",
     "went past quality 2 and looked at all",
+];
+/// Seeds of the random days.
+const DAY_SEEDS: std::ops::RangeInclusive<u64> = 1..=2_000;
+/// Errors at the thresholds of an interval and beside them.
+const ERRORS: [i64; 6] = [-6_000_004, -6_000_000, -5_999_996, 5_999_996, 6_000_000, 6_000_004];
+/// What is asked of the days that are assessed: of a day, or of an interval in it.
+const DAYS: [&str; 42] = [
+    "flag none",
+    "flag under",
+    "flag over",
+    "T 0",
+    "exactly 50 %",
+    "one Wh under 50 %",
+    "one Wh over 50 %",
+    "exactly 150 %",
+    "one Wh under 150 %",
+    "one Wh over 150 %",
+    "under intervals",
+    "over intervals",
+    "under and over intervals",
+    "neither under nor over intervals, T not 0",
+    "flag none, under or over intervals",
+    "flag under, neither under nor over intervals",
+    "flag over, neither under nor over intervals",
+    "first record left out after an earlier target of 0, otherwise under",
+    "first record left out after an earlier target of 0, otherwise over",
+    "first record under after an earlier target",
+    "first record over after an earlier target",
+    "left out after a target of 0, otherwise under",
+    "left out after a target of 0, otherwise over",
+    "target 0 with a large BSQ - ME above 0, T not 0",
+    "target 0 with a large BSQ - ME below 0, T not 0",
+    "D with the records of target 0 has another flag",
+    "run of zero targets between events",
+    "single zero target between events",
+    "target 0 in the first record, T not 0",
+    "target 0 in the last record, T not 0",
+    "D below 0",
+    "dispatched, BSQ above 0",
+    "dispatched, BSQ below 0",
+    "dispatched, ME above 0",
+    "dispatched, ME below 0",
+    "earlier target 2000000",
+    "target 2000000",
+    "BSQ 200000000",
+    "BSQ -200000000",
+    "ME 200000000",
+    "ME -200000000",
+    "events of two or more intervals, targets from 1 to 200 MW, half of them near",
+];
+/// What is asked of the days refused by 31.
+const DAY_LENGTHS: [&str; 8] = [
+    "missing file",
+    "fewer than 4 bytes",
+    "287 records",
+    "289 records",
+    "288 records and 1 to 11 bytes more",
+    "288 records and 1 to 11 bytes less",
+    "one byte over",
+    "a value beyond its bound too",
+];
+/// What is asked of the days refused by 32.
+const DAY_VALUES: [&str; 12] = [
+    "earlier target",
+    "target in the first record",
+    "target in a middle record",
+    "target in the last record",
+    "BSQ above",
+    "BSQ below",
+    "ME above",
+    "ME below",
+    "BSQ above, target 0",
+    "BSQ below, target 0",
+    "ME above, target 0",
+    "ME below, target 0",
 ];
 
 /// Counts under a name.
@@ -184,6 +260,204 @@ fn count_random_passes(counts: &mut Counts) {
                 }
             }
         }
+    }
+}
+
+/// Counts what the random days reach.
+fn count_random_days(counts: &mut Counts) {
+    for seed in DAY_SEEDS {
+        let day = random_days::day(seed);
+        let bytes = day.as_deref().unwrap_or_default();
+        let answer = response::assess_file(bytes);
+        counts.answer("days:", &answer);
+        let mut met = BTreeSet::new();
+        if day.is_none() {
+            met.insert("missing file");
+        } else if bytes.len() < response::EARLIER {
+            met.insert("fewer than 4 bytes");
+        }
+        if let Some((&earlier, records)) = bytes.split_first_chunk() {
+            let earlier = u32::from_le_bytes(earlier);
+            let records: Vec<response::Record> = records.as_chunks().0.iter().map(response::Record::read).collect();
+            match answer {
+                Ok(found) => meet_assessed(counts, &mut met, earlier, &records, found),
+                Err(Refusal::DayLength) => meet_length(&mut met, earlier, &records, bytes.len()),
+                Err(_) => {
+                    meet_beyond(&mut met, earlier, &records);
+                    // A value in a record of target 0 has two names.
+                    let alone: Vec<&str> =
+                        met.iter().copied().filter(|name| !met.contains(&*format!("{name}, target 0"))).collect();
+                    if let [name] = alone[..] {
+                        counts.add(format!("days: refused 32, alone, {name}"));
+                    }
+                }
+            }
+        }
+        for name in met {
+            match answer {
+                Ok(_) => counts.add(format!("days: {name}")),
+                Err(refusal) => counts.add(format!("days: {refusal}, {name}")),
+            }
+        }
+    }
+}
+
+/// What a file of another length is.
+fn meet_length(met: &mut BTreeSet<&str>, earlier: u32, records: &[response::Record], length: usize) {
+    let whole = response::EARLIER + response::RECORDS * response::RECORD;
+    met.insert(match length as i64 - whole as i64 {
+        -12 => "287 records",
+        12 => "289 records",
+        -11..=-1 => "288 records and 1 to 11 bytes less",
+        1..=11 => "288 records and 1 to 11 bytes more",
+        _ => "another length",
+    });
+    if length == whole + 1 {
+        met.insert("one byte over");
+    }
+    if earlier > response::TARGET_BOUND || !records.iter().all(|record| record.is_within_bounds()) {
+        met.insert("a value beyond its bound too");
+    }
+}
+
+/// Which values are beyond their bounds.
+fn meet_beyond(met: &mut BTreeSet<&str>, earlier: u32, records: &[response::Record]) {
+    if earlier > response::TARGET_BOUND {
+        met.insert("earlier target");
+    }
+    let bound = response::ENERGY_BOUND as i32;
+    for (place, record) in records.iter().enumerate() {
+        if record.target > response::TARGET_BOUND {
+            met.insert(match place {
+                0 => "target in the first record",
+                287 => "target in the last record",
+                _ => "target in a middle record",
+            });
+        }
+        for (beyond, name, of_zero) in [
+            (record.baseline > bound, "BSQ above", "BSQ above, target 0"),
+            (record.baseline < -bound, "BSQ below", "BSQ below, target 0"),
+            (record.metered > bound, "ME above", "ME above, target 0"),
+            (record.metered < -bound, "ME below", "ME below, target 0"),
+        ] {
+            if beyond {
+                met.insert(name);
+                if record.target == 0 {
+                    met.insert(of_zero);
+                }
+            }
+        }
+    }
+}
+
+/// What an assessed day meets. Counts the errors of its intervals.
+fn meet_assessed(
+    counts: &mut Counts,
+    met: &mut BTreeSet<&str>,
+    earlier: u32,
+    records: &[response::Record],
+    found: Assessment,
+) {
+    let mut meet = |reached: bool, name| {
+        if reached {
+            met.insert(name);
+        }
+    };
+    let Assessment { response, target, flag, under, over } = found;
+    let flag_name = |flag| match flag {
+        Flag::None => "flag none",
+        Flag::Under => "flag under",
+        Flag::Over => "flag over",
+    };
+    meet(true, flag_name(flag));
+    meet(target == 0, "T 0");
+    let dispatched = target != 0;
+    for (thousands, names) in [
+        (1_000, ["exactly 50 %", "one Wh under 50 %", "one Wh over 50 %"]),
+        (3_000, ["exactly 150 %", "one Wh under 150 %", "one Wh over 150 %"]),
+    ] {
+        match 24 * response - thousands * i64::from(target) {
+            0 => meet(dispatched, names[0]),
+            -24 => meet(dispatched, names[1]),
+            24 => meet(dispatched, names[2]),
+            // 150 % is always a whole number of Wh.
+            -23..=-1 => meet(true, "the last Wh under 50 %, none being at it"),
+            1..=23 => meet(true, "the first Wh over 50 %, none being at it"),
+            _ => {}
+        }
+    }
+    let quiet = dispatched && under == 0 && over == 0;
+    meet(under > 0, "under intervals");
+    meet(over > 0, "over intervals");
+    meet(under > 0 && over > 0, "under and over intervals");
+    meet(quiet, "neither under nor over intervals, T not 0");
+    meet(flag == Flag::None && under + over > 0, "flag none, under or over intervals");
+    meet(flag == Flag::Under && quiet, "flag under, neither under nor over intervals");
+    meet(flag == Flag::Over && quiet, "flag over, neither under nor over intervals");
+    meet(under == 288, "288 under intervals");
+    meet(over == 288, "288 over intervals");
+    meet(response < 0, "D below 0");
+    meet(response.abs() == 115_200_000_000, "D at its greatest size");
+    meet(target == 576_000_000, "T at its greatest");
+    meet(earlier == 2_000_000, "earlier target 2000000");
+
+    let before = |place: usize| place.checked_sub(1).map_or(earlier, |place| records[place].target);
+    let (mut near, mut counted) = (0, 0);
+    for (place, &record) in records.iter().enumerate() {
+        meet(record.target == 2_000_000, "target 2000000");
+        meet(record.baseline == 200_000_000, "BSQ 200000000");
+        meet(record.baseline == -200_000_000, "BSQ -200000000");
+        meet(record.metered == 200_000_000, "ME 200000000");
+        meet(record.metered == -200_000_000, "ME -200000000");
+        if record.target == 0 {
+            meet(dispatched && record.response() >= 1_000_000, "target 0 with a large BSQ - ME above 0, T not 0");
+            meet(dispatched && record.response() <= -1_000_000, "target 0 with a large BSQ - ME below 0, T not 0");
+            continue;
+        }
+        meet(record.baseline > 0, "dispatched, BSQ above 0");
+        meet(record.baseline < 0, "dispatched, BSQ below 0");
+        meet(record.metered > 0, "dispatched, ME above 0");
+        meet(record.metered < 0, "dispatched, ME below 0");
+        match (place, before(place), record.flag()) {
+            (0, 0, Flag::Under) => meet(true, "first record left out after an earlier target of 0, otherwise under"),
+            (0, 0, Flag::Over) => meet(true, "first record left out after an earlier target of 0, otherwise over"),
+            (0, _, Flag::Under) => meet(true, "first record under after an earlier target"),
+            (0, _, Flag::Over) => meet(true, "first record over after an earlier target"),
+            (_, 0, Flag::Under) => meet(true, "left out after a target of 0, otherwise under"),
+            (_, 0, Flag::Over) => meet(true, "left out after a target of 0, otherwise over"),
+            _ => {}
+        }
+        if before(place) != 0 {
+            counted += 1;
+            near += usize::from(record.flag() == Flag::None && (1_000..=200_000).contains(&record.target));
+            let error = record.error();
+            if ERRORS.contains(&error) {
+                counts.add(format!("days: interval with an error of {error}"));
+            }
+        }
+    }
+    meet(
+        counted >= 2 && 2 * near >= counted,
+        "events of two or more intervals, targets from 1 to 200 MW, half of them near",
+    );
+
+    // The same sums with the records of target 0.
+    let whole: i64 = records.iter().map(|record| record.response()).sum();
+    let other = Flag::of_day(whole, target);
+    meet(other != flag, "D with the records of target 0 has another flag");
+
+    let zero = |place: usize| records[place].target == 0;
+    meet(dispatched && zero(0), "target 0 in the first record, T not 0");
+    meet(dispatched && zero(287), "target 0 in the last record, T not 0");
+    let mut events = (0..288).filter(|&place| !zero(place));
+    let mut last = events.next();
+    for place in events {
+        match last.map(|last| place - last) {
+            Some(2) => meet(true, "single zero target between events"),
+            Some(3..) => meet(true, "run of zero targets between events"),
+            _ => {}
+        }
+        last = Some(place);
     }
 }
 
@@ -363,6 +637,7 @@ fn main() -> ExitCode {
         }
     }
     count_random_passes(&mut counts);
+    count_random_days(&mut counts);
     println!("seeds {first} to {last}: {bytes} bytes, longest list {longest}");
     for (name, count) in &counts.0 {
         println!("{count:>9} {name}");
@@ -450,6 +725,11 @@ fn main() -> ExitCode {
             wanted.push(format!("passes: chain of {length}, {what}"));
         }
     }
+    wanted.push("days: accepted".into());
+    wanted.extend(DAYS.iter().map(|what| format!("days: {what}")));
+    wanted.extend(ERRORS.iter().map(|error| format!("days: interval with an error of {error}")));
+    wanted.extend(DAY_LENGTHS.iter().map(|what| format!("days: refused 31, {what}")));
+    wanted.extend(DAY_VALUES.iter().map(|what| format!("days: refused 32, {what}")));
     wanted.push("script error".into());
     wanted.push("interval jump".into());
     let rare: Vec<&String> = wanted.iter().filter(|name| counts.0.get(*name).copied().unwrap_or(0) < LEAST).collect();

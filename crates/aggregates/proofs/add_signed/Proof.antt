@@ -5,9 +5,9 @@ use mathlib.Core.Path.{_≡_, _∙_}
 use mir.Syntax.{w32, w64}
 use mir.Val.{toZ, ofZ}
 use mir.ValLaws.{toZ-ofZ}
-use Rattle.signed.proofs.Sizes.{size31}
+use Rattle.signed.proofs.Sizes.{size-held}
 use Rattle.aggregates.specs.Aggregates.{addSigned}
-use Rattle.marks.proofs.Held.{result64}
+use Rattle.signed.proofs.Results.{result64}
 use Rattle.aggregates.proofs.add_signed.Statement.{statement}
 use Rattle.aggregates.proofs.add_signed.Tie as tie
 
@@ -24,7 +24,7 @@ widened-requires c κs = search needs
 minus-requires : tie.Need-minus-requires
 minus-requires c κs =
     let s = c .before .before in
-    rw (sum-is s, result64 (c .widened) ∙ c .widened .ensures ∙ z-is s) (omega (arith, size31 (s .args .z) (s .fits .z)))
+    rw (sum-is s, result64 (c .widened) ∙ c .widened .ensures ∙ z-is s) (omega (arith, size-held w32 (s .args .z) (s .fits .z)))
 
 widened-requires-2 : tie.Need-widened-requires-2
 widened-requires-2 c κs = search needs
@@ -32,7 +32,7 @@ widened-requires-2 c κs = search needs
 plus-requires : tie.Need-plus-requires
 plus-requires c κs =
     let s = c .before .before in
-    rw (sum-is s, result64 (c .widened2) ∙ c .widened2 .ensures ∙ z-is s) (omega (arith, size31 (s .args .z) (s .fits .z)))
+    rw (sum-is s, result64 (c .widened2) ∙ c .widened2 .ensures ∙ z-is s) (omega (arith, size-held w32 (s .args .z) (s .fits .z)))
 
 returns : tie.Need-returns
 unfolding addSigned

@@ -1,12 +1,10 @@
 -- `marks::allowed_rate` meets its contract. Assumes nothing.
 use borrow.Author.Needs.{needs}
-use native.Mathlib.Omega.{arith}
 use mathlib.Core.Path.{_≡_}
 use mir.Syntax.{w64}
 use mir.Val.{toZ, ofZ}
 use Rattle.telemetry.specs.Kilowatts.{kilowattsOf}
-use Rattle.telemetry.proofs.Floats.{kilowatts-size}
-use Rattle.marks.proofs.Held.{result32, result64}
+use Rattle.signed.proofs.Results.{result32, result64}
 use Rattle.marks.proofs.allowed_rate.Statement.{statement}
 use Rattle.marks.proofs.allowed_rate.Tie as tie
 
@@ -20,7 +18,7 @@ widened-requires : tie.Need-widened-requires
 widened-requires c κs = search needs
 
 size-requires : tie.Need-size-requires
-size-requires c κs = rw (wide-is c) (omega (arith, kilowatts-size (c .before .before .args .scada)))
+size-requires c κs = search needs
 
 lesser-requires : tie.Need-lesser-requires
 lesser-requires c κs = search needs

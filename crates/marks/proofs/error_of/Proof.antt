@@ -7,7 +7,7 @@ use mir.Val.{toZ, ofZ}
 use lib.IntN.{pos}
 use lib.Signed.{ltZ}
 use Rattle.marks.specs.Errors.{overOf, underOf, errorOf}
-use Rattle.marks.proofs.Held.{result64}
+use Rattle.signed.proofs.Results.{result64}
 use Rattle.marks.proofs.error_of.Statement.{statement}
 use Rattle.marks.proofs.error_of.Tie as tie
 

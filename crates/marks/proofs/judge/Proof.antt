@@ -9,7 +9,8 @@ use lib.IntN.{ℤ}
 use mir.Syntax.{w64}
 use mir.Val.{toZ, ofZ}
 use Rattle.signed.specs.Floors.{floored}
-use Rattle.marks.proofs.Held.{result32, result64, Held, held, held-basis}
+use Rattle.signed.proofs.Results.{result32, result64}
+use Rattle.marks.proofs.Held.{Held, held, held-basis}
 use Rattle.marks.proofs.Small.{error-size}
 use Rattle.marks.proofs.Thresholds.{small-bounded}
 use Rattle.marks.proofs.Fields.{assessment-is}

@@ -3,9 +3,9 @@ use borrow.Author.Needs.{needs}
 use mathlib.Core.Path.{_≡_}
 use mir.Syntax.{w64}
 use mir.Val.{toZ, ofZ}
-use Rattle.signed.proofs.Sizes.{held32, size32}
+use Rattle.signed.proofs.Sizes.{held32}
 use Rattle.marks.specs.KeptLines.{keptBounded}
-use Rattle.marks.proofs.Held.{result64}
+use Rattle.signed.proofs.Results.{result64}
 use Rattle.marks.proofs.kept_bounded.Statement.{statement}
 use Rattle.marks.proofs.kept_bounded.Tie as tie
 
@@ -16,7 +16,7 @@ widened-requires : tie.Need-widened-requires
 widened-requires c κs = search needs
 
 size-requires : tie.Need-size-requires
-size-requires c κs = rw (wide-is c) (size32 (c .before .before .args .k .target) (record { sfits = search needs }))
+size-requires c κs = search needs
 
 returns : tie.Need-returns
 unfolding keptBounded

@@ -1,6 +1,7 @@
 -- `marks::over_of` meets its contract. Assumes nothing.
 use native.Mathlib.Omega.{arith}
-use Rattle.marks.proofs.Held.{result64, held-basis}
+use Rattle.signed.proofs.Results.{result64}
+use Rattle.marks.proofs.Held.{held-basis}
 use Rattle.marks.proofs.over_of.Statement.{statement}
 use Rattle.marks.proofs.over_of.Tie as tie
 

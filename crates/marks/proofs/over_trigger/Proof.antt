@@ -1,5 +1,6 @@
 -- `marks::over_trigger` meets its contract. Assumes nothing.
 use native.Mathlib.Omega.{arith}
+use borrow.Author.Needs.{needs}
 use mathlib.Core.Path.{_≡_}
 use mir.Syntax.{w64}
 use mir.ValLaws.{toZ-ofZ}
@@ -12,7 +13,7 @@ size-is : (c : tie.After-size) → c .size .result ≡ natAbs (c .before .args .
 size-is c = cc (toZ-ofZ w64 _ (c .before .fits .error))
 
 size-requires : tie.Need-size-requires
-size-requires c κs = rw (toZ-ofZ w64 _ (c .fits .error)) (omega arith)
+size-requires c κs = search needs
 
 mul-result : tie.Need-mul-result
 mul-result c = omega (arith, size-is c)

@@ -1,7 +1,7 @@
 -- `marks::power_in` meets its contract. Assumes nothing.
 use borrow.Author.Needs.{needs}
 use Rattle.marks.specs.Assessments.{kilowattsIn}
-use Rattle.marks.proofs.Held.{result32}
+use Rattle.signed.proofs.Results.{result32}
 use Rattle.marks.proofs.power_in.Statement.{statement}
 use Rattle.marks.proofs.power_in.Tie as tie
 

@@ -2,7 +2,8 @@
 use native.Mathlib.Omega.{arith}
 use lib.IntN.{+ℤ-idl}
 use Rattle.marks.specs.Errors.{underOf}
-use Rattle.marks.proofs.Held.{result64, held-basis}
+use Rattle.signed.proofs.Results.{result64}
+use Rattle.marks.proofs.Held.{held-basis}
 use Rattle.marks.proofs.under_of.Statement.{statement}
 use Rattle.marks.proofs.under_of.Tie as tie
 

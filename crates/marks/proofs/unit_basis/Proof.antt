@@ -11,7 +11,7 @@ use Rattle.telemetry.specs.declared.Fields.{Fields}
 use Rattle.marks.specs.Triggers.{directionOf, rateOf, unitCapability}
 use Rattle.marks.specs.Assessments.{kilowattsIn, isDoubtful, unitBasis}
 use Rattle.marks.proofs.Fields.{basis-is}
-use Rattle.marks.proofs.Held.{result32, result64}
+use Rattle.signed.proofs.Results.{result32, result64}
 use Rattle.marks.proofs.unit_basis.Statement.{statement}
 use Rattle.marks.proofs.unit_basis.Tie as tie
 

@@ -3,7 +3,7 @@ use borrow.Author.Needs.{needs}
 use mir.Syntax.{w64}
 use mir.ValLaws.{toZ-ofZ}
 use Rattle.signed.proofs.Sizes.{held32}
-use Rattle.marks.proofs.Held.{result64}
+use Rattle.signed.proofs.Results.{result64}
 use Rattle.marks.proofs.unit_rate.Statement.{statement}
 use Rattle.marks.proofs.unit_rate.Tie as tie
 

@@ -5,7 +5,7 @@ use mathlib.Core.Path.{_∙_}
 use lib.Dec.{lit<}
 use Rattle.signed.proofs.Sizes.{held32}
 use Rattle.aggregates.specs.Aggregates.{addKept}
-use Rattle.marks.proofs.Held.{result64}
+use Rattle.signed.proofs.Results.{result64}
 use Rattle.aggregates.proofs.Held.{held-kept}
 use Rattle.aggregates.proofs.KeptSums.plus.Statement.{statement}
 use Rattle.aggregates.proofs.KeptSums.plus.Tie as tie

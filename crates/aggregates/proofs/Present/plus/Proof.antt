@@ -4,7 +4,7 @@ use native.Mathlib.Omega.{arith}
 use lib.Dec.{lit<}
 use Rattle.signed.proofs.Sizes.{held32}
 use Rattle.aggregates.specs.Aggregates.{addPresent}
-use Rattle.marks.proofs.Held.{result32, result64}
+use Rattle.signed.proofs.Results.{result32, result64}
 use Rattle.aggregates.proofs.Held.{held-present}
 use Rattle.aggregates.proofs.Present.plus.Statement.{statement}
 use Rattle.aggregates.proofs.Present.plus.Tie as tie

@@ -3,7 +3,7 @@ use borrow.Author.Needs.{needs}
 use mathlib.Core.Path.{_≡_, _∙_}
 use mir.Syntax.{w32, w64}
 use mir.Val.{toZ, ofZ}
-use Rattle.signed.proofs.Sizes.{back32, held64, size32}
+use Rattle.signed.proofs.Sizes.{back32, held64}
 use Rattle.monitor.specs.Operators.{allowedLevel}
 use Rattle.monitor.proofs.operators.level_allowed.Statement.{statement}
 use Rattle.monitor.proofs.operators.level_allowed.Tie as tie
@@ -19,7 +19,7 @@ widened-requires : tie.Need-widened-requires
 widened-requires c κs = search needs
 
 size-requires : tie.Need-size-requires
-size-requires c κs = rw (wide-is c) (size32 (c .before .args .level) (c .before .fits .level))
+size-requires c κs = search needs
 
 returns : tie.Need-returns
 unfolding allowedLevel

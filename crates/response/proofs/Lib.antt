@@ -1,0 +1,7 @@
+-- What belongs to no one function.
+pub mod Bounds
+pub mod Flags
+pub mod Sums
+pub mod Refusals
+pub mod Days
+pub mod Files
