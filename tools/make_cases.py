@@ -14,6 +14,7 @@ import pathlib
 import subprocess
 import sys
 
+import folders
 from plant_bytes import (AUTOMATIC, BAD, BIDIRECTIONAL, GENERATING, LOAD, MANUAL, SEMI_SCHEDULED, SUBSTITUTED, interval, line,
                          register)
 
@@ -573,47 +574,24 @@ def files(case):
     return out
 
 
-def write():
-    for name, case in CASES.items():
-        folder = ROOT / name
-        folder.mkdir(parents=True, exist_ok=True)
-        wanted = files(case)
-        for file in ("register.bin", "intervals.bin", "expected"):
-            if file in wanted:
-                (folder / file).write_bytes(wanted[file])
-            else:
-                (folder / file).unlink(missing_ok=True)
-    print(f"{len(CASES)} folders")
-
-
-def check(program):
-    wrong = 0
-    for name, case in CASES.items():
-        folder = ROOT / name
-        wanted = files(case)
-        found = {path.name: path.read_bytes() for path in folder.iterdir()} if folder.is_dir() else {}
-        if found != wanted:
+def check(made, program):
+    wrong = folders.wrong(ROOT, made)
+    for name, wanted in made.items() if program else ():
+        out = subprocess.run([program, str(ROOT / name)], stdout=subprocess.PIPE, check=False).stdout
+        if out != wanted["expected"]:
             wrong += 1
-            print(f"{name}: files differ")
-        if program:
-            out = subprocess.run([program, str(folder)], stdout=subprocess.PIPE, check=False).stdout
-            if out != wanted["expected"]:
-                wrong += 1
-                print(f"{name}: prints\n{out.decode()}instead of\n{wanted['expected'].decode()}", end="")
-    extra = {path.name for path in ROOT.iterdir()} - set(CASES) if ROOT.is_dir() else set()
-    for name in sorted(extra):
-        wrong += 1
-        print(f"{name}: no such case")
-    print(f"{len(CASES)} cases, {wrong} wrong")
+            print(f"{name}: prints\n{out.decode()}instead of\n{wanted['expected'].decode()}", end="")
+    print(f"{len(made)} cases, {wrong} wrong")
     return 1 if wrong else 0
 
 
 def main(arguments):
+    made = {name: files(case) for name, case in CASES.items()}
     if not arguments:
-        write()
+        folders.write(ROOT, made)
         return 0
     if arguments[0] == "--check" and len(arguments) <= 2:
-        return check(arguments[1] if len(arguments) == 2 else None)
+        return check(made, arguments[1] if len(arguments) == 2 else None)
     print(__doc__)
     return 2
 

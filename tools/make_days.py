@@ -1,5 +1,5 @@
 #!/usr/bin/env python3
-"""Data folders for the program response_day: tests/days/NAME/{day.bin,expected}.
+"""Data folders for the program response_day: tests/days/NAME/{day.bin,expected}, and the data of its crate.
 
     make_days.py           writes the folders
     make_days.py --check   compares the folders with what this script makes
@@ -40,7 +40,9 @@ import pathlib
 import struct
 import sys
 
-ROOT = pathlib.Path(__file__).resolve().parent.parent / "tests" / "days"
+import folders
+
+ROOT = pathlib.Path(__file__).resolve().parent.parent
 RECORDS = range(1, 289)
 
 
@@ -433,6 +435,14 @@ GROUPS = RULES, RATIOS, ERRORS, ZEROS, EARLIER, LEFT_OUT, SUMS, COUNTS, BYTES, B
 CASES = {name: case for group in GROUPS for name, case in group.items()}
 
 
+# What `rt ci` runs the program on.
+CRATE_DAY = "three_events"
+CRATE_FILES = {
+    ROOT / "crates" / "response_day" / "data" / "day.bin": "day.bin",
+    ROOT / "crates" / "response_day" / "stdout": "expected",
+}
+
+
 # ---- the files
 
 
@@ -445,42 +455,27 @@ def files(case):
     return out
 
 
-def write():
-    for name, case in CASES.items():
-        folder = ROOT / name
-        folder.mkdir(parents=True, exist_ok=True)
-        wanted = files(case)
-        for file in ("day.bin", "expected"):
-            if file in wanted:
-                (folder / file).write_bytes(wanted[file])
-            else:
-                (folder / file).unlink(missing_ok=True)
-    print(f"{len(CASES)} folders")
-
-
-def check():
-    wrong = 0
-    for name, case in CASES.items():
-        folder = ROOT / name
-        found = {path.name: path.read_bytes() for path in folder.iterdir()} if folder.is_dir() else {}
-        if found != files(case):
+def check(made):
+    wrong = folders.wrong(ROOT / "tests" / "days", made)
+    for path, contents in CRATE_FILES.items():
+        if not path.is_file() or path.read_bytes() != made[CRATE_DAY][contents]:
             wrong += 1
-            print(f"{name}: files differ")
-    extra = {path.name for path in ROOT.iterdir()} - set(CASES) if ROOT.is_dir() else set()
-    for name in sorted(extra):
-        wrong += 1
-        print(f"{name}: no such case")
-    print(f"{len(CASES)} days, {wrong} wrong")
+            print(f"{path.relative_to(ROOT)}: differs")
+    print(f"{len(made)} days, {wrong} wrong")
     return 1 if wrong else 0
 
 
 def main(arguments):
     assert len(CASES) == sum(map(len, GROUPS)), "two cases have one name"
+    made = {name: files(case) for name, case in CASES.items()}
     if not arguments:
-        write()
+        folders.write(ROOT / "tests" / "days", made)
+        for path, contents in CRATE_FILES.items():
+            path.parent.mkdir(parents=True, exist_ok=True)
+            path.write_bytes(made[CRATE_DAY][contents])
         return 0
     if arguments == ["--check"]:
-        return check()
+        return check(made)
     print(__doc__)
     return 2
 

@@ -1,18 +1,17 @@
 -- What follows from the definition of a day. Assumes nothing.
-use mathlib.Core.Path.{_≡_, refl, sym, ap, _∙_}
-use mathlib.Core.Bool.{Bool, true, false, cond, false≢true}
+use mathlib.Core.Path.{_≡_, refl, sym, _∙_}
+use mathlib.Core.Bool.{Bool, true, false, false≢true}
 use mathlib.Core.List.{List}
-use Prim.Native.Nat.{ℕ, suc, _+_, _*_, _≤_, _<_}
+use Prim.Native.Nat.{ℕ, _+_, _*_, _≤_, _<_}
 use native.Mathlib.Nat.{le-refl}
 use native.Mathlib.Omega.{arith}
-use borrow.Author.Tests.{leb-true, le-leb, eqb-true, eq-eqb}
+use borrow.Author.Tests.{leb-true, le-leb, eq-eqb}
 use lib.Dec.{eqb}
 use lib.IntN.{ℤ, pos, negsuc, natAbs, _+ℤ_, _*ℤ_}
 use lib.Signed.{leZ}
-use Rattle.trace.specs.Sums.{addedWhere}
 use Rattle.trace.proofs.Sums.{added-nothing, sum-zero, counts-apart}
 use Rattle.response.specs.Intervals.{intervalAt, responseOf, intervalFlag, isUnder, isOver}
-use Rattle.response.specs.Days.{dispatchedAt, responseSum, targetSum, flagAt, underCount, overCount, isHalfOrLess, isThreeHalvesOrMore, dayFlag, dayOf}
+use Rattle.response.specs.Days.{dispatchedAt, targetSum, flagAt, isHalfOrLess, isThreeHalvesOrMore, dayFlag, dayOf}
 use Rattle.response.specs.Answers.{dayBounded}
 use Rattle.response.specs.declared.Flag.{Flag}
 use Rattle.response.specs.declared.Flag.the-variants.{None, Under, Over}

@@ -11,10 +11,10 @@ use lib.IntN.{pos, natAbs, _+ℤ_}
 use Rattle.trace.specs.Sums.{addedWhere}
 use Rattle.trace.proofs.Sums.{added-size}
 use Rattle.signed.proofs.Sizes.{size-plus}
-use Rattle.response.specs.Intervals.{intervalAt, intervalFlag, responseOf, isUnder, isOver, intervalBounded}
+use Rattle.response.specs.Intervals.{intervalAt, intervalFlag, responseOf, isUnder, isOver}
 use Rattle.response.specs.Days.{dispatchedAt, responseSum, targetSum, targetBefore, flagAt, underCount, overCount}
 use Rattle.response.specs.Answers.{dayBounded}
-use Rattle.response.specs.Totals.{Roomy, addDispatched, addInterval, totalsOf}
+use Rattle.response.specs.Totals.{SmallTotals, addDispatched, addInterval, totalsOf}
 use Rattle.response.specs.declared.Interval.{Interval}
 use Rattle.response.specs.declared.totals.Totals.{Totals}
 use Rattle.response.proofs.Bounds.{bounded, bounded-at}
@@ -37,8 +37,8 @@ module _ (earlier : ℕ) (records : List ℕ) where
       → before ≡ targetBefore earlier records k → v ≡ intervalAt records k → addInterval t before v ≡ totalsOf earlier records (k + 1)
   totals-more k t before v a b c = rw (a, b, c, add-one k) (more-by k (eqb (intervalAt records k .target) 0) refl)
 
-  pub before-more : (k target : ℕ) → target ≡ intervalAt records k .target → target ≡ targetBefore earlier records (k + 1)
-  before-more k target e = rw (add-one k) e
+  pub before-more : (k : ℕ) (v : Interval) → v ≡ intervalAt records k → v .target ≡ targetBefore earlier records (k + 1)
+  before-more k v e = rw (add-one k, e)
 
   -- ---- how large they are
 
@@ -65,9 +65,9 @@ module _ (earlier : ℕ) (records : List ℕ) where
         added-size _+_ 0 (dispatchedAt records) (λ i. intervalAt records i .target) (λ n. n) refl (λ a b. le-refl (a + b)) 2000000 k
         (λ i l. bounded (intervalAt records i) (bounded-at earlier records e i (omega arith)) .target)
 
-    pub totals-roomy : (k : ℕ) → k < 288 → Roomy (totalsOf earlier records k)
+    pub totals-small : (k : ℕ) → k < 288 → SmallTotals (totalsOf earlier records k)
     unfolding totalsOf
-    totals-roomy k l =
+    totals-small k l =
         record {
           response = omega (arith, response-most k (omega arith));
           target = omega (arith, target-most k (omega arith));
@@ -76,6 +76,6 @@ module _ (earlier : ℕ) (records : List ℕ) where
         }
 
     -- D of the whole day
-    pub day-small : (t : Totals) → t ≡ totalsOf earlier records 288 → natAbs (t .response) ≤ 115200000000
+    pub response-small : (t : Totals) → t ≡ totalsOf earlier records 288 → natAbs (t .response) ≤ 115200000000
     unfolding totalsOf
-    day-small t is = rw is (response-most 288 (le-refl 288))
+    response-small t is = rw is (response-most 288 (le-refl 288))

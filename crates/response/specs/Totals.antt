@@ -9,8 +9,8 @@ use Rattle.response.specs.Days.{responseSum, targetSum, underCount, over
 use Rattle.response.specs.declared.Interval.{Interval}
 use Rattle.response.specs.declared.totals.Totals.{Totals}
 
--- room for one interval more
-pub record Roomy (t : Totals) : Type 0 where
+-- small enough for one interval more
+pub record SmallTotals (t : Totals) : Type 0 where
   pub response : natAbs (t .response) ≤ 2 ^ 62
   pub target : t .target < 2 ^ 31
   pub under : t .under < 2 ^ 31

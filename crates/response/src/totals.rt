@@ -4,8 +4,7 @@ ghost use mathlib.Core.Bool.{true};
 ghost use Prim.Native.Nat.{_^_, _<_};
 ghost use Rattle.response.specs.Intervals.{intervalBounded};
 ghost use Rattle.response.specs.Answers.{isWhole, dayBounded};
-ghost use Rattle.response.specs.Totals.{Roomy, counted, addDispatched, addInterval, totalsOf};
-use crate::Flag;
+ghost use Rattle.response.specs.Totals.{SmallTotals, counted, addDispatched, addInterval, totalsOf};
 use crate::Interval;
 use crate::intervals;
 
@@ -26,7 +25,7 @@ fn counted(count: u32, more: bool) -> u32
 
 impl Totals {
     fn plus_dispatched(self, before: u32, v: Interval) -> Totals
-        requires { ⌜ Roomy self ⌝ }
+        requires { ⌜ SmallTotals self ⌝ }
         requires { ⌜ intervalBounded v ≡ true ⌝ }
         ensures { λ r. ⌜ r ≡ addDispatched self before v ⌝ }
     {
@@ -41,7 +40,7 @@ impl Totals {
 
     // An interval with no target is in neither sum and is not flagged.
     fn plus(self, before: u32, v: Interval) -> Totals
-        requires { ⌜ Roomy self ⌝ }
+        requires { ⌜ SmallTotals self ⌝ }
         requires { ⌜ intervalBounded v ≡ true ⌝ }
         ensures { λ r. ⌜ r ≡ addInterval self before v ⌝ }
     {

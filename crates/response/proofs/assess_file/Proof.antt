@@ -1,5 +1,4 @@
 -- `response::assess_file` meets its contract. Assumes nothing.
-use native.Mathlib.Omega.{arith}
 use borrow.Author.Needs.{needs}
 use Rattle.response.proofs.Refusals.{file-short, file-day}
 use Rattle.response.proofs.assess_file.Statement.{statement}

@@ -10,13 +10,13 @@ use mir.Val.{toZ, ofZ}
 use Rattle.signed.proofs.Sizes.{held-size}
 use Rattle.response.specs.Days.{dayOf}
 use Rattle.response.specs.Totals.{totalsOf}
-use Rattle.response.proofs.Sums.{day-small}
+use Rattle.response.proofs.Sums.{response-small}
 use Rattle.response.proofs.assessed.Statement.{statement}
 use Rattle.response.proofs.assessed.Tie as tie
 
 -- D, as locals hold it
 small : (c : tie.After-sum-up) → natAbs (c .sum-up .result .response) ≤ 115200000000
-small c = let s = c .before .before in day-small (s .args .earlier) _ (s .pre .1) _ (c .sum-up .ensures)
+small c = let s = c .before .before in response-small (s .args .earlier) _ (s .pre .1) _ (c .sum-up .ensures)
 
 response-is : (c : tie.After-sum-up) → toZ w64 (ofZ w64 (c .sum-up .result .response)) ≡ c .sum-up .result .response
 response-is c = held-size _ (small c) (lit< tt)

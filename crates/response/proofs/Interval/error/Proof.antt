@@ -2,8 +2,8 @@
 use borrow.Author.Needs.{needs}
 use native.Mathlib.Omega.{arith}
 use mathlib.Core.Path.{_≡_, _∙_}
-use Prim.Native.Nat.{_*_, _≤_, _<_, _^_}
-use lib.IntN.{pos, natAbs, _*ℤ_}
+use Prim.Native.Nat.{_*_}
+use lib.IntN.{pos, _*ℤ_}
 use mir.Syntax.{w64}
 use mir.Val.{toZ, ofZ}
 use Rattle.signed.proofs.Results.{result64}

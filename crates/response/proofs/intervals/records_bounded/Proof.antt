@@ -3,7 +3,6 @@ use mathlib.Core.Path.{_≡_, ap, _∙_}
 use native.Mathlib.Omega.{arith}
 use Prim.Native.Nat.{_≤_, _<_, _-_}
 use borrow.Author.Needs.{needs}
-use Rattle.trace.specs.Sweeps.{every}
 use Rattle.trace.proofs.Sweeps.{every-none, every-more, every-end}
 use Rattle.response.specs.Intervals.{intervalAt, intervalBounded}
 use Rattle.response.specs.Answers.{recordsBounded}

@@ -5,10 +5,9 @@ use native.Mathlib.Nat.{le-antisymm}
 use native.Mathlib.Omega.{arith}
 use borrow.Author.Needs.{needs}
 use Rattle.response.specs.Days.{targetBefore}
-use Rattle.response.specs.Totals.{Roomy, totalsOf}
-use Rattle.response.specs.declared.Interval.{Interval}
+use Rattle.response.specs.Totals.{SmallTotals, totalsOf}
 use Rattle.response.proofs.Bounds.{record-in, bounded-at}
-use Rattle.response.proofs.Sums.{totals-none, totals-more, before-more, totals-roomy}
+use Rattle.response.proofs.Sums.{totals-none, totals-more, before-more, totals-small}
 use Rattle.response.proofs.totals.sum_up.Statement.{statement}
 use Rattle.response.proofs.totals.sum_up.Tie as tie
 
@@ -39,7 +38,7 @@ plus-requires : tie.Need-plus-requires Inv-loop μ-loop
 plus-requires c κs =
     let l = c .before .before in
     let s = start l in (
-      subst Roomy (sym (l .loop .inv .1)) (totals-roomy (s .args .earlier) _ (s .pre .1) _ (inside (c .before))),
+      subst SmallTotals (sym (l .loop .inv .1)) (totals-small (s .args .earlier) _ (s .pre .1) _ (inside (c .before))),
       rw (c .interval-at .ensures) (bounded-at (s .args .earlier) _ (s .pre .1) _ (inside (c .before))),
     )
 
@@ -52,8 +51,11 @@ loop-less c = search needs
 loop-again : tie.Need-loop-again Inv-loop μ-loop
 loop-again c =
     let l = at c in
-    let read = c .before .interval-at .ensures in
-    (omega arith, c .plus .ensures ∙ totals-more _ _ _ _ _ _ (l .loop .inv .1) (l .loop .inv .2) read, before-more _ _ _ _ (ap (λ (v : Interval). v .target) read))
+    let read = c .before .interval-at .ensures in (
+      omega arith,
+      c .plus .ensures ∙ totals-more _ _ _ _ _ _ (l .loop .inv .1) (l .loop .inv .2) read,
+      before-more _ _ _ _ read,
+    )
 
 returns : tie.Need-returns Inv-loop μ-loop
 returns c = let l = c .before in l .loop .inv .1 ∙ ap (totalsOf _ _) (le-antisymm (l .loop .inv .0) (c .loop-test .left))

@@ -15,6 +15,9 @@ use Rattle.response.proofs.totals.Totals.plus_dispatched.Tie as tie
 abbrev start : tie.After-response → tie.Start
 start c = c .before .before
 
+abbrev responded : tie.After-struct-known2 → tie.After-response
+responded c = c .before .before .before .before
+
 abbrev sum : tie.After-counted2 → tie.After-plus
 sum c = c .before .before .before .before .before .before
 
@@ -36,7 +39,7 @@ plus-requires c κs =
 
 add-t7 : tie.Need-add-t7
 add-t7 c =
-    let s = c .before .before .before .before .before .before in
+    let s = start (responded c) in
     record { fits = omega (arith, s .pre .0 .target, bounded _ (s .pre .1) .target) }
 
 is-under-requires : tie.Need-is-under-requires
