@@ -30,12 +30,19 @@ pub record Bounded (v : Interval) : Type 0 where
 pub bounded : (v : Interval) → intervalBounded v ≡ true → Bounded v
 unfolding intervalBounded
 bounded v e =
-    let energies = and-r (targetBounded (v .target)) (energyBounded (v .baseline) && energyBounded (v .metered)) e in
-    let baseline = leb-true (natAbs (v .baseline)) 200000000 (and-l (energyBounded (v .baseline)) (energyBounded (v .metered)) energies) in
-    let metered = leb-true (natAbs (v .metered)) 200000000 (and-r (energyBounded (v .baseline)) (energyBounded (v .metered)) energies) in
+    let target = targetBounded (v .target) in
+    let baseline = energyBounded (v .baseline) in
+    let metered = energyBounded (v .metered) in
+    let energies = and-r target (baseline && metered) e in
     record {
-      target = leb-true (v .target) 2000000 (and-l (targetBounded (v .target)) (energyBounded (v .baseline) && energyBounded (v .metered)) e);
-      response = omega (arith, size-minus (v .baseline) (v .metered), baseline, metered);
+      target = leb-true (v .target) 2000000 (and-l target (baseline && metered) e);
+      response =
+          omega (
+            arith,
+            size-minus (v .baseline) (v .metered),
+            leb-true (natAbs (v .baseline)) 200000000 (and-l baseline metered energies),
+            leb-true (natAbs (v .metered)) 200000000 (and-r baseline metered energies),
+          );
     }
 
 -- the three tests, one by one

@@ -1,52 +1,70 @@
 -- The totals that the code holds are those of the records so far, and they fit. Assumes nothing.
-use mathlib.Core.Path.{_≡_, refl}
-use mathlib.Core.Bool.{Bool, true, false}
+use mathlib.Core.Path.{_≡_, refl, _∙_}
+use mathlib.Core.Bool.{Bool, true, false, cond}
 use mathlib.Core.List.{List}
-use Prim.Native.Nat.{ℕ, suc, _+_, _*_, _≤_, _<_}
+use Prim.Native.Nat.{ℕ, _+_, _*_, _≤_, _<_}
 use native.Mathlib.Nat.{le-refl}
 use native.Mathlib.Numerals.{add-one}
 use native.Mathlib.Omega.{arith}
 use lib.Dec.{eqb}
 use lib.IntN.{pos, natAbs, _+ℤ_}
-use Rattle.trace.specs.Sums.{addedWhere}
-use Rattle.trace.proofs.Sums.{added-size}
+use Rattle.trace.proofs.Sums.{added-none, added-more, added-size, sum-most, count-most}
 use Rattle.signed.proofs.Sizes.{size-plus}
-use Rattle.response.specs.Intervals.{intervalAt, intervalFlag, responseOf, isUnder, isOver}
+use Rattle.response.specs.Intervals.{intervalAt, isDispatched, intervalFlag, responseOf, isUnder, isOver}
 use Rattle.response.specs.Days.{dispatchedAt, responseSum, targetSum, targetBefore, flagAt, underCount, overCount}
 use Rattle.response.specs.Answers.{dayBounded}
-use Rattle.response.specs.Totals.{SmallTotals, addDispatched, addInterval, totalsOf}
+use Rattle.response.specs.Totals.{SmallTotals, counted, addDispatched, addInterval, totalsOf}
 use Rattle.response.specs.declared.Interval.{Interval}
 use Rattle.response.specs.declared.totals.Totals.{Totals}
 use Rattle.response.proofs.Bounds.{bounded, bounded-at}
 
--- ---- none, and one record more
+-- ---- one interval more
+
+-- each sum and count by its own test
+abbrev eachMore : Totals → ℕ → Interval → Totals
+eachMore t before v =
+    record {
+      response = cond (isDispatched v) (t .response +ℤ responseOf v) (t .response);
+      target = cond (isDispatched v) (t .target + v .target) (t .target);
+      under = counted (t .under) (isUnder (intervalFlag before v));
+      over = counted (t .over) (isOver (intervalFlag before v));
+    }
+
+-- all by one test, as the code adds: an interval with no target has no flag
+by-one : (t : Totals) (before : ℕ) (v : Interval) (none : Bool) → eqb (v .target) 0 ≡ none → addInterval t before v ≡ eachMore t before v
+unfolding addInterval addDispatched intervalFlag
+by-one t before v true e = rw e
+by-one t before v false e = rw e
 
 module _ (earlier : ℕ) (records : List ℕ) where
   pub totals-none : record { response = pos 0; target = 0; under = 0; over = 0 } ≡ totalsOf earlier records 0
-  unfolding totalsOf addedWhere
-  totals-none = refl
+  unfolding totalsOf
+  totals-none =
+      rw (
+        added-none _+ℤ_ (pos 0) (dispatchedAt records) (λ i. responseOf (intervalAt records i)),
+        added-none _+_ 0 (dispatchedAt records) (λ i. intervalAt records i .target),
+        added-none _+_ 0 (λ i. isUnder (flagAt earlier records i)) (λ i. 1),
+        added-none _+_ 0 (λ i. isOver (flagAt earlier records i)) (λ i. 1),
+      )
 
-  -- by whether the interval has no target
-  more-by : (k : ℕ) (zero : Bool) → eqb (intervalAt records k .target) 0 ≡ zero
-      → addInterval (totalsOf earlier records k) (targetBefore earlier records k) (intervalAt records k) ≡ totalsOf earlier records (suc k)
-  unfolding addInterval addDispatched totalsOf addedWhere intervalFlag
-  more-by k true e = rw e
-  more-by k false e = rw e
+  each-more : (k : ℕ) → eachMore (totalsOf earlier records k) (targetBefore earlier records k) (intervalAt records k) ≡ totalsOf earlier records (k + 1)
+  unfolding totalsOf
+  each-more k =
+      rw (
+        added-more _+ℤ_ (pos 0) (dispatchedAt records) (λ i. responseOf (intervalAt records i)) k (responseSum records k) refl,
+        added-more _+_ 0 (dispatchedAt records) (λ i. intervalAt records i .target) k (targetSum records k) refl,
+        added-more _+_ 0 (λ i. isUnder (flagAt earlier records i)) (λ i. 1) k (underCount earlier records k) refl,
+        added-more _+_ 0 (λ i. isOver (flagAt earlier records i)) (λ i. 1) k (overCount earlier records k) refl,
+      )
 
   pub totals-more : (k : ℕ) (t : Totals) (before : ℕ) (v : Interval) → t ≡ totalsOf earlier records k
       → before ≡ targetBefore earlier records k → v ≡ intervalAt records k → addInterval t before v ≡ totalsOf earlier records (k + 1)
-  totals-more k t before v a b c = rw (a, b, c, add-one k) (more-by k (eqb (intervalAt records k .target) 0) refl)
+  totals-more k t before v a b c = by-one t before v (eqb (v .target) 0) refl ∙ rw (a, b, c) (each-more k)
 
   pub before-more : (k : ℕ) (v : Interval) → v ≡ intervalAt records k → v .target ≡ targetBefore earlier records (k + 1)
   before-more k v e = rw (add-one k, e)
 
   -- ---- how large they are
-
-  -- a count of k intervals
-  count-most : (test : ℕ → Bool) (k : ℕ) → addedWhere _+_ 0 test (λ i. 1) k ≤ k
-  count-most test k =
-      let most = added-size _+_ 0 test (λ i. 1) (λ n. n) refl (λ a b. le-refl (a + b)) 1 k (λ i l. le-refl 1) in
-      omega (arith, most)
 
   pub under-most : (k : ℕ) → underCount earlier records k ≤ k
   under-most k = count-most (λ i. isUnder (flagAt earlier records i)) k
@@ -62,7 +80,7 @@ module _ (earlier : ℕ) (records : List ℕ) where
 
     pub target-most : (k : ℕ) → k ≤ 288 → targetSum records k ≤ 2000000 * k
     target-most k h =
-        added-size _+_ 0 (dispatchedAt records) (λ i. intervalAt records i .target) (λ n. n) refl (λ a b. le-refl (a + b)) 2000000 k
+        sum-most (dispatchedAt records) (λ i. intervalAt records i .target) 2000000 k
         (λ i l. bounded (intervalAt records i) (bounded-at earlier records e i (omega arith)) .target)
 
     pub totals-small : (k : ℕ) → k < 288 → SmallTotals (totalsOf earlier records k)

@@ -3,7 +3,7 @@ use mathlib.Core.Path.{_≡_, refl, sym}
 use mathlib.Core.Logic.{_⊎_, inl, inr}
 use mathlib.Core.Bool.{Bool, true, false, cond, false≢true}
 use Prim.Native.Nat.{ℕ, zero, suc, _+_, _*_, _≤_, _<_}
-use native.Mathlib.Nat.{mul-suc, eq-or-lt-of-le, le-of-suc-le-suc}
+use native.Mathlib.Nat.{le-refl, mul-suc, eq-or-lt-of-le, le-of-suc-le-suc}
 use native.Mathlib.Numerals.{add-one}
 use native.Mathlib.Omega.{arith}
 use Rattle.trace.specs.Sums.{addedWhere, sumWhere, countWhere}
@@ -37,6 +37,15 @@ module _ {A : Type 0} (plus : A → A → A) (none : A) (test : ℕ → Bool) (f
       let with : size (plus sum (f k)) ≤ most * suc k = omega (arith, before, room, parts sum (f k), h k (omega arith)) in
       let without : size sum ≤ most * suc k = omega (arith, before, room) in
       chosen (λ a. size a ≤ most * suc k) (test k) (plus sum (f k)) sum with without
+
+-- ---- of numbers
+
+module _ (test : ℕ → Bool) where
+  pub sum-most : (f : ℕ → ℕ) (most k : ℕ) → ((i : ℕ) → i < k → f i ≤ most) → sumWhere test f k ≤ most * k
+  sum-most f = added-size _+_ 0 test f (λ n. n) refl (λ a b. le-refl (a + b))
+
+  pub count-most : (k : ℕ) → countWhere test k ≤ k
+  count-most k = omega (arith, sum-most (λ i. 1) 1 k (λ i l. le-refl 1))
 
 -- a sum of 0 is of zeros
 pub sum-zero : (test : ℕ → Bool) (f : ℕ → ℕ) (k : ℕ) → sumWhere test f k ≡ 0 → (i : ℕ) → i < k → test i ≡ true → f i ≡ 0
