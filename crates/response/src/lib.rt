@@ -18,7 +18,7 @@ pub enum Flag {
 }
 
 // One record: dispatch target MWB in kW, baseline settlement quantity BSQ and metered energy ME in Wh.
-pub struct Interval {
+pub(crate) struct Interval {
     pub target: u32,
     pub baseline: i32,
     pub metered: i32,

@@ -9,7 +9,7 @@ use crate::Interval;
 use crate::intervals;
 
 // Of the intervals so far: D and T, and how many are flagged.
-pub struct Totals {
+pub(crate) struct Totals {
     pub response: i64,
     pub target: u32,
     pub under: u32,
