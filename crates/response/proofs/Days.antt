@@ -9,14 +9,13 @@ use borrow.Author.Tests.{leb-true, le-leb, eq-eqb}
 use lib.Dec.{eqb}
 use lib.IntN.{ℤ, pos, negsuc, natAbs, _+ℤ_, _*ℤ_}
 use lib.Signed.{leZ}
-use Rattle.trace.proofs.Sums.{added-nothing, sum-zero, counts-apart}
+use Rattle.trace.proofs.Sums.{added-nothing, sum-zero}
 use Rattle.response.specs.Intervals.{intervalAt, responseOf, intervalFlag, isUnder, isOver}
 use Rattle.response.specs.Days.{dispatchedAt, targetSum, flagAt, isHalfOrLess, isThreeHalvesOrMore, dayFlag, dayOf}
 use Rattle.response.specs.Answers.{dayBounded}
-use Rattle.response.specs.declared.Flag.{Flag}
 use Rattle.response.specs.declared.Flag.the-variants.{None, Under, Over}
 use Rattle.response.proofs.Flags.{flag-undispatched, flag-under, flag-over}
-use Rattle.response.proofs.Sums.{response-most, target-most}
+use Rattle.response.proofs.Sums.{counted-most, response-most, target-most}
 
 -- ---- "Exactly 50 % and exactly 150 % are flagged", and a day is not under and over
 
@@ -50,18 +49,10 @@ module _ (response : ℤ) (target : ℕ) (dispatched : target ≡ 0 → ⊥) whe
 
 -- ---- the counts
 
-under-not-over : (flag : Flag) → isUnder flag ≡ true → isOver flag ≡ false
-under-not-over None e = refl
-under-not-over Under e = refl
-under-not-over Over e = absurd (false≢true e)
-
 module _ (earlier : ℕ) (records : List ℕ) where
-  -- no interval is counted twice
   pub counts-most : dayOf earlier records .under + dayOf earlier records .over ≤ 288
   unfolding dayOf
-  counts-most =
-      counts-apart (λ i. isUnder (flagAt earlier records i)) (λ i. isOver (flagAt earlier records i))
-      (λ i. under-not-over (flagAt earlier records i)) 288
+  counts-most = counted-most earlier records 288
 
   -- ---- "T = 0 is a day without dispatch, with no flag"
 

@@ -1,6 +1,6 @@
 -- The totals that the code holds are those of the records so far, and they fit. Assumes nothing.
 use mathlib.Core.Path.{_≡_, refl, _∙_}
-use mathlib.Core.Bool.{Bool, true, false, cond}
+use mathlib.Core.Bool.{Bool, true, false, cond, false≢true}
 use mathlib.Core.List.{List}
 use Prim.Native.Nat.{ℕ, _+_, _*_, _≤_, _<_}
 use native.Mathlib.Nat.{le-refl}
@@ -8,12 +8,14 @@ use native.Mathlib.Numerals.{add-one}
 use native.Mathlib.Omega.{arith}
 use lib.Dec.{eqb}
 use lib.IntN.{pos, natAbs, _+ℤ_}
-use Rattle.trace.proofs.Sums.{added-none, added-more, added-size, sum-most, count-most}
+use Rattle.trace.proofs.Sums.{added-none, added-more, added-size, sum-most, counts-apart}
 use Rattle.signed.proofs.Sizes.{size-plus}
 use Rattle.response.specs.Intervals.{intervalAt, isDispatched, intervalFlag, responseOf, isUnder, isOver}
 use Rattle.response.specs.Days.{dispatchedAt, responseSum, targetSum, targetBefore, flagAt, underCount, overCount}
 use Rattle.response.specs.Answers.{dayBounded}
 use Rattle.response.specs.Totals.{SmallTotals, counted, addDispatched, addInterval, totalsOf}
+use Rattle.response.specs.declared.Flag.{Flag}
+use Rattle.response.specs.declared.Flag.the-variants.{None, Under, Over}
 use Rattle.response.specs.declared.Interval.{Interval}
 use Rattle.response.specs.declared.totals.Totals.{Totals}
 use Rattle.response.proofs.Bounds.{bounded, bounded-at}
@@ -35,6 +37,11 @@ by-one : (t : Totals) (before : ℕ) (v : Interval) (none : Bool) → eqb (v .ta
 unfolding addInterval addDispatched intervalFlag
 by-one t before v true e = rw e
 by-one t before v false e = rw e
+
+under-not-over : (flag : Flag) → isUnder flag ≡ true → isOver flag ≡ false
+under-not-over None e = refl
+under-not-over Under e = refl
+under-not-over Over e = absurd (false≢true e)
 
 module _ (earlier : ℕ) (records : List ℕ) where
   pub totals-none : record { response = pos 0; target = 0; under = 0; over = 0 } ≡ totalsOf earlier records 0
@@ -66,11 +73,11 @@ module _ (earlier : ℕ) (records : List ℕ) where
 
   -- ---- how large they are
 
-  pub under-most : (k : ℕ) → underCount earlier records k ≤ k
-  under-most k = count-most (λ i. isUnder (flagAt earlier records i)) k
-
-  pub over-most : (k : ℕ) → overCount earlier records k ≤ k
-  over-most k = count-most (λ i. isOver (flagAt earlier records i)) k
+  -- no interval is counted twice
+  pub counted-most : (k : ℕ) → underCount earlier records k + overCount earlier records k ≤ k
+  counted-most =
+      counts-apart (λ i. isUnder (flagAt earlier records i)) (λ i. isOver (flagAt earlier records i))
+      (λ i. under-not-over (flagAt earlier records i))
 
   module _ (e : dayBounded earlier records ≡ true) where
     pub response-most : (k : ℕ) → k ≤ 288 → natAbs (responseSum records k) ≤ 400000000 * k
@@ -89,8 +96,8 @@ module _ (earlier : ℕ) (records : List ℕ) where
         record {
           response = omega (arith, response-most k (omega arith));
           target = omega (arith, target-most k (omega arith));
-          under = omega (arith, under-most k);
-          over = omega (arith, over-most k);
+          under = omega (arith, counted-most k);
+          over = omega (arith, counted-most k);
         }
 
     -- D of the whole day

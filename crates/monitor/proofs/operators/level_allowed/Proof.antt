@@ -3,7 +3,8 @@ use borrow.Author.Needs.{needs}
 use mathlib.Core.Path.{_≡_, _∙_}
 use mir.Syntax.{w32, w64}
 use mir.Val.{toZ, ofZ}
-use Rattle.signed.proofs.Sizes.{back32, held64}
+use Rattle.signed.proofs.Sizes.{back32}
+use Rattle.signed.proofs.Results.{result64}
 use Rattle.monitor.specs.Operators.{allowedLevel}
 use Rattle.monitor.proofs.operators.level_allowed.Statement.{statement}
 use Rattle.monitor.proofs.operators.level_allowed.Tie as tie
@@ -13,7 +14,7 @@ level-is : (s : tie.Start) → toZ w32 (ofZ w32 (s .args .level)) ≡ s .args .l
 level-is s = back32 (s .args .level) (s .fits .level)
 
 wide-is : (c : tie.After-widened) → toZ w64 (ofZ w64 (c .widened .result)) ≡ c .before .args .level
-wide-is c = held64 (c .widened .result) (c .widened .ok) ∙ c .widened .ensures ∙ level-is (c .before)
+wide-is c = result64 (c .widened) ∙ c .widened .ensures ∙ level-is (c .before)
 
 widened-requires : tie.Need-widened-requires
 widened-requires c κs = search needs
