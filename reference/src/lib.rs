@@ -7,14 +7,16 @@
 //! - [`marks`]: rate of change, triggers, errors, the mark of a unit, the pass that marks an aggregate
 //! - [`monitor`]: the state; load, interval, declare, reinstate, look; the report
 //!
-//! Apart from the monitor, and without state:
+//! Apart from the monitor:
 //!
-//! - [`response`]: one day of wholesale demand response, energy in Wh and errors in W; refusals 31 and 32
+//! - [`response`]: one day of wholesale demand response, energy in Wh and errors in W, without state; refusals 31 and 32
+//! - [`ledger`]: its days over the year, the declaration by three instances, lists of its calls; refusals 33 to 35
 //!
 //! Around them: [`program`] and [`replay`] print what the calls answer, [`passes`] what the pass over an aggregate's members
-//! returns; [`random_calls`], [`random_passes`], [`random_days`] and [`bench_input`] make input.
+//! returns; [`random_calls`], [`random_passes`], [`random_days`], [`random_ledgers`] and [`bench_input`] make input.
 
 pub mod bench_input;
+pub mod ledger;
 pub mod line;
 pub mod marks;
 pub mod monitor;
@@ -22,6 +24,7 @@ pub mod passes;
 pub mod program;
 pub mod random_calls;
 pub mod random_days;
+pub mod random_ledgers;
 pub mod random_passes;
 pub mod refusal;
 pub mod register;

@@ -42,6 +42,12 @@ pub enum Refusal {
     DayLength = 31,
     /// Target above 2,000,000, or BSQ or ME beyond ±200,000,000, in a day of demand response.
     DayValue = 32,
+    /// No such date from 2000 to 2099.
+    NoSuchDate = 33,
+    /// Date not later than the last accepted one.
+    NotLater = 34,
+    /// Reinstatement of a unit of demand response that is not declared.
+    UnitNotDeclared = 35,
 }
 
 impl Refusal {

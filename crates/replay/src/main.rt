@@ -9,26 +9,6 @@ ghost use mathlib.Core.Path.{_≡_};
 ghost use lib.ListN.{length};
 use monitor::Monitor;
 
-// Room for the longest call.
-fn longest_call() -> [u8; 8200]
-    ensures { λ r. ⌜ 8200 ≡ length r ⌝ }
-{
-    [0; 8200]
-}
-
-// The bytes of a call: the first 8, and as many as they ask for.
-fn read_call(fd: i32, call: &mut [u8]) -> usize
-    requires { ⌜ length (now call) ≡ 8200 ⌝ }
-    ensures { λ r. ⌜ r ≤ 8200 ⌝ }
-{
-    let head = io::read_full(fd, &mut call[0..8]);
-    let size = script::wanted(&call[0..head]);
-    if size == 0 {
-        return head;
-    }
-    head + io::read_full(fd, &mut call[8..8 + size])
-}
-
 // Whether the run goes on, the next state, and the bytes that the call took.
 struct Run {
     more: bool,
@@ -41,7 +21,7 @@ fn take_one(fd: i32, m: Monitor, at: u64, call: &mut [u8], out: &mut [u8; 8192])
     requires { ⌜ length (now call) ≡ 8200 ⌝ }
     ensures { λ r. ⌜ r .taken ≤ 8200 ⌝ }
 {
-    let taken = read_call(fd, call);
+    let taken = input::read_call(fd, call);
     let turn = script::step(m, at, &call[0..taken], out);
     let written = output::write(b"replay: standard output", out, turn.length);
     let monitor = turn.monitor;
@@ -76,7 +56,7 @@ fn main() {
     if fd < 0 {
         return;
     }
-    let mut call = longest_call();
+    let mut call = frames::room();
     let mut out = program::room();
     take_all(fd, &mut call, &mut out);
     libc::close(fd);

@@ -20,7 +20,8 @@ fn put_flagged(out: &mut [u8; 64], day: Day, flag: &[u8]) -> usize
     requires { ⌜ length (now flag) ≤ 5 ⌝ }
     ensures { λ r. ⌜ Put (now (out .entry)) 0 (dayLineOf (day .response) (day .target) (now (flag .entry)) (day .under) (day .over)) r (now (out .exit)) ⌝ }
 {
-    text::put_day(out, 0, day.response, day.target, flag, day.under, day.over)
+    let end = text::put_day(out, 0, day.response, day.target, flag, day.under, day.over);
+    text::put_bytes(out, end, b"\n")
 }
 
 fn put_day(out: &mut [u8; 64], day: Day) -> usize

@@ -1,14 +1,13 @@
 -- What the bytes of a call say, by the tests that the code makes. Assumes nothing.
 use mathlib.Core.Path.{_≡_, refl}
-use mathlib.Core.Bool.{Bool, true, false, _&&_}
+use mathlib.Core.Bool.{true, false}
 use mathlib.Core.List.{List, [], _∷_}
-use Prim.Native.Nat.{ℕ, _+_, _-_, _≤_, _<_}
+use Prim.Native.Nat.{ℕ, _≤_, _<_}
 use native.Mathlib.Omega.{arith}
-use borrow.Author.Tests.{le-leb, lt-leb, eq-eqb, ne-eqb, eqb-true, eqb-false}
-use lib.Dec.{leb, eqb}
-use lib.ListN.{length, take, drop, replicate, length-drop}
-use lib.Seq.{take-all}
+use borrow.Author.Tests.{le-leb, lt-leb, eq-eqb, ne-eqb}
+use lib.ListN.{length, drop, replicate}
 use Rattle.wire.specs.Fields.{wordAt, wholeAt}
+use Rattle.frames.specs.Frames.{isFrame}
 use Rattle.monitor.specs.Operators.{declare, reinstate, look}
 use Rattle.monitor.specs.Calls.{interval, operate}
 use Rattle.monitor.specs.declared.Monitor.{Monitor}
@@ -16,12 +15,8 @@ use Rattle.text.proofs.Puts.{nothing}
 use Rattle.program.specs.Steps.{Steps}
 use Rattle.program.proofs.Turns.{turned}
 use Rattle.script.specs.Items.{unreadable, loads, calls, intervalItem, declareItem, pointItem, operatorItem, payloadItem}
-use Rattle.script.specs.Items.{wantedBy, isWhole, itemOf}
+use Rattle.script.specs.Items.{itemOf}
 use Rattle.script.specs.Steps.{madeBy, stepOf}
-
--- a part that goes to the end
-pub behind : (k : ℕ) (bytes : List ℕ) → take (length bytes - k) (drop k bytes) ≡ drop k bytes
-behind k bytes = take-all (length bytes - k) (drop k bytes) (rw length-drop (omega arith))
 
 module _ (payload : List ℕ) where
   -- ---- interval
@@ -89,45 +84,16 @@ module _ (tag point : ℕ) where
   unfolding pointItem
   point-unread e f = rw (ne-eqb tag 4 e, ne-eqb tag 5 f)
 
--- ---- the first 8 bytes
-
-module _ (head : List ℕ) where
-  pub wanted-read : length head ≡ 8 → wordAt head 4 ≤ 8192 → wantedBy head ≡ wordAt head 4
-  unfolding wantedBy
-  wanted-read e h = rw (eq-eqb (length head) 8 e, le-leb (wordAt head 4) 8192 h)
-
-  pub wanted-long : length head ≡ 8 → 8192 < wordAt head 4 → wantedBy head ≡ 0
-  unfolding wantedBy
-  wanted-long e h = rw (eq-eqb (length head) 8 e, lt-leb (wordAt head 4) 8192 h)
-
-  pub wanted-short : (length head ≡ 8 → ⊥) → wantedBy head ≡ 0
-  unfolding wantedBy
-  wanted-short e = rw (ne-eqb (length head) 8 e)
-
 -- ---- the whole
 
-same-length : (a b : ℕ) → 8 ≤ a → eqb (a - 8) b ≡ eqb a (8 + b)
-same-length a b h = go (eqb a (8 + b)) refl
-  where
-    go : (t : Bool) → eqb a (8 + b) ≡ t → eqb (a - 8) b ≡ t
-    go true e = let f : a ≡ 8 + b = eqb-true a (8 + b) e in eq-eqb (a - 8) b (omega arith)
-    go false e = ne-eqb (a - 8) b λ f. eqb-false a (8 + b) e (omega arith)
-
 module _ (bytes : List ℕ) where
-  pub whole-is : 8 ≤ length bytes → (leb (wordAt bytes 4) 8192 && eqb (length bytes - 8) (wordAt bytes 4)) ≡ isWhole bytes
-  whole-is h = rw (same-length (length bytes) (wordAt bytes 4) h)
-
-  pub item-short : length bytes < 8 → itemOf bytes ≡ unreadable
+  pub item-frame : isFrame bytes ≡ true → itemOf bytes ≡ payloadItem (wordAt bytes 0) (drop 8 bytes)
   unfolding itemOf
-  item-short h = rw (lt-leb 8 (length bytes) h)
+  item-frame e = rw e
 
-  pub item-whole : 8 ≤ length bytes → isWhole bytes ≡ true → itemOf bytes ≡ payloadItem (wordAt bytes 0) (drop 8 bytes)
+  pub item-unread : isFrame bytes ≡ false → itemOf bytes ≡ unreadable
   unfolding itemOf
-  item-whole h e = rw (le-leb 8 (length bytes) h, e)
-
-  pub item-not-whole : 8 ≤ length bytes → isWhole bytes ≡ false → itemOf bytes ≡ unreadable
-  unfolding itemOf
-  item-not-whole h e = rw (le-leb 8 (length bytes) h, e)
+  item-unread e = rw e
 
 pub step-item : (m : Monitor) (at : ℕ) (bytes : List ℕ) → (length bytes ≡ 0 → ⊥) → stepOf m at bytes ≡ madeBy m at (itemOf bytes)
 unfolding stepOf

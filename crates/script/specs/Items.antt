@@ -1,4 +1,4 @@
--- A call of a list in a file: a u32 tag, a u32 payload length and the payload, all little-endian.
+-- A call of a list in a file (`crates/frames/specs/Frames.antt`), by its tag:
 --   1 load        the register's bytes
 --   2 interval    u32 length of the report buffer, then the interval buffer
 --   3 declare     u32 point, i32 level
@@ -6,10 +6,11 @@
 --   5 look        u32 point
 use mathlib.Core.Bool.{Bool, cond, _&&_}
 use mathlib.Core.List.{List}
-use Prim.Native.Nat.{ℕ, _+_}
+use Prim.Native.Nat.{ℕ}
 use lib.Dec.{leb, eqb}
 use lib.ListN.{length, drop, replicate}
 use Rattle.wire.specs.Fields.{wordAt, wholeAt}
+use Rattle.frames.specs.Frames.{isFrame}
 use Rattle.monitor.specs.Operators.{declare, reinstate, look}
 use Rattle.monitor.specs.Calls.{Call, interval, operate}
 
@@ -19,10 +20,7 @@ pub data Item : Type 0 where
   loads : (register : List ℕ) → Item
   calls : Call → Item
 
--- the longest payload, and the longest report buffer
-abbrev pub longestPayload : ℕ
-longestPayload = 8192
-
+-- the longest report buffer
 abbrev pub longestReport : ℕ
 longestReport = 4096
 
@@ -49,13 +47,5 @@ operatorItem tag payload =
 unfoldable pub payloadItem : ℕ → List ℕ → Item
 payloadItem tag payload = cond (eqb tag 1) (loads payload) (cond (eqb tag 2) (intervalItem payload) (operatorItem tag payload))
 
--- how many bytes of payload come after the first 8, as they say; none where those are not 8 or ask for too many
-unfoldable pub wantedBy : List ℕ → ℕ
-wantedBy head = cond (eqb (length head) 8 && leb (wordAt head 4) longestPayload) (wordAt head 4) 0
-
--- the payload has the length that the first 8 bytes say
-abbrev pub isWhole : List ℕ → Bool
-isWhole bytes = leb (wordAt bytes 4) longestPayload && eqb (length bytes) (8 + wordAt bytes 4)
-
 unfoldable pub itemOf : List ℕ → Item
-itemOf bytes = when (leb 8 (length bytes) && isWhole bytes) (payloadItem (wordAt bytes 0) (drop 8 bytes))
+itemOf bytes = when (isFrame bytes) (payloadItem (wordAt bytes 0) (drop 8 bytes))

@@ -1,11 +1,8 @@
 // A list of calls in a file, step by step: a call is read, made and answered in text. The format stands in `specs/Items.antt`.
 mod calls;
 
-ghost use mathlib.Core.Path.{_≡_};
-ghost use Prim.Native.Nat.{_≤_};
-ghost use lib.ListN.{length};
 ghost use Rattle.program.specs.Steps.{Steps};
-ghost use Rattle.script.specs.Items.{intervalItem, declareItem, pointItem, operatorItem, payloadItem, wantedBy, isWhole};
+ghost use Rattle.script.specs.Items.{intervalItem, declareItem, pointItem, operatorItem, payloadItem};
 ghost use Rattle.script.specs.Steps.{unread, madeBy, stepOf};
 use monitor::Monitor;
 use program::Turn;
@@ -86,29 +83,6 @@ fn payload_call(m: Monitor, at: u64, tag: u32, payload: &[u8], out: &mut [u8; 81
     operator_call(m, at, tag, payload, out)
 }
 
-// How many bytes of payload are to be read after the first 8, which are `head`.
-pub fn wanted(head: &[u8]) -> usize
-    ensures size { λ r. ⌜ r ≡ wantedBy (now (head .entry)) ⌝ }
-    ensures small { λ r. ⌜ r ≤ 8192 ⌝ }
-{
-    if head.len() == 8 {
-        let size = wire::word_at(head, 4);
-        if size <= 8192 {
-            return size as usize;
-        }
-    }
-    0
-}
-
-// Whether the payload has the length that the first 8 bytes say.
-fn is_whole(call: &[u8]) -> bool
-    requires { ⌜ 8 ≤ length (now call) ⌝ }
-    ensures { λ r. ⌜ r ≡ isWhole (now (call .entry)) ⌝ }
-{
-    let size = wire::word_at(call, 4);
-    (size <= 8192) & (call.len() - 8 == size as usize)
-}
-
 // The bytes that were read for a call, whose tag is at byte `at` of the file: none at its end.
 pub fn step(m: Monitor, at: u64, call: &[u8], out: &mut [u8; 8192]) -> Turn
     ensures { λ r. ⌜ Steps (stepOf m at (now (call .entry))) r (now (out .entry)) (now (out .exit)) ⌝ }
@@ -120,10 +94,7 @@ pub fn step(m: Monitor, at: u64, call: &[u8], out: &mut [u8; 8192]) -> Turn
             length: 0,
         };
     }
-    if call.len() < 8 {
-        return unreadable(m, at, out);
-    }
-    if is_whole(call) {
+    if frames::is_frame(call) {
         return payload_call(m, at, wire::word_at(call, 0), &call[8..], out);
     }
     unreadable(m, at, out)

@@ -1,6 +1,6 @@
 -- The pieces that the code puts make up a point's line, and the lines make up a report. Assumes nothing.
 use mathlib.Core.Path.{_≡_, sym}
-use mathlib.Core.List.{List, _++_, append-assoc}
+use mathlib.Core.List.{List, [], _∷_, _++_, append-assoc, append-nil}
 use Prim.Native.Nat.{ℕ, suc, _+_, _-_, _*_, _/_, _≤_, _<_}
 use native.Mathlib.Numerals.{add-one}
 use native.Mathlib.Omega.{arith}
@@ -10,7 +10,7 @@ use lib.Seq.{length-take-le}
 use Rattle.trace.specs.Sweeps.{records}
 use Rattle.trace.proofs.Sweeps.{records-rise}
 use Rattle.text.specs.Numbers.{decimalOf}
-use Rattle.text.specs.Lines.{lineOf, lineAt, linesOf, standingOf, dayLineOf}
+use Rattle.text.specs.Lines.{lineOf, lineAt, linesOf, standingOf, dayValuesOf, dayLineOf}
 use Rattle.text.specs.Pieces.{field, statusPiece, amountsPiece, runsPiece, levelPiece, sumsPiece, countsPiece}
 use Rattle.text.specs.Puts.{Room, Put}
 use Rattle.text.proofs.Puts.{nothing, room-left, then, same-length}
@@ -25,8 +25,12 @@ pub standing-pieces : (words : List ℕ) (status small large : ℕ) (level : ℤ
 standing-pieces words status small large level = simp append-assoc
 
 pub day-pieces : (response : ℤ) (target : ℕ) (flag : List ℕ) (under over : ℕ)
-    → dayLineOf response target flag under over ≡ sumsPiece response target ++ (field flag ++ countsPiece under over)
-day-pieces response target flag under over = simp append-assoc
+    → dayValuesOf response target flag under over ≡ sumsPiece response target ++ (field flag ++ countsPiece under over)
+day-pieces response target flag under over = simp (append-assoc, append-nil)
+
+pub day-line : (response : ℤ) (target : ℕ) (flag : List ℕ) (under over : ℕ)
+    → dayLineOf response target flag under over ≡ dayValuesOf response target flag under over ++ (10 ∷ [])
+day-line response target flag under over = simp (append-assoc, append-nil)
 
 -- ---- the lines of a report: the first i are put
 

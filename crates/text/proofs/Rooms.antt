@@ -16,7 +16,7 @@ use Rattle.trace.proofs.Sweeps.{records-at-most}
 use Rattle.wire.specs.Fields.{wordAt, wholeAt}
 use Rattle.wire.proofs.Laws.{four}
 use Rattle.text.specs.Numbers.{decimalOf, wholeOf}
-use Rattle.text.specs.Lines.{lineOf, lineAt, linesOf, numberedOf, standingOf, dayLineOf}
+use Rattle.text.specs.Lines.{lineOf, lineAt, linesOf, numberedOf, standingOf, dayValuesOf}
 use Rattle.text.specs.Puts.{Room, Put, PutWithin, hasRoom, longestLine, longestLines}
 use Rattle.text.proofs.Numbers.{length-decimal}
 
@@ -90,7 +90,7 @@ standing-longest words status small large level a b c d =
     (omega (arith, byte-longest status a, byte-longest small b, byte-longest large c, whole-longest level d))
 
 pub day-longest : (response : ℤ) (target : ℕ) (flag : List ℕ) (under over : ℕ) → SFits w64 response → target < 2 ^ 32 → under < 2 ^ 32 → over < 2 ^ 32
-    → length (dayLineOf response target flag under over) ≤ length flag + 55
+    → length (dayValuesOf response target flag under over) ≤ length flag + 54
 day-longest response target flag under over a b c d =
     simp length-append
     (omega (arith, long-longest response a, word-longest target b, word-longest under c, word-longest over d))

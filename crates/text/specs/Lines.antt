@@ -54,7 +54,21 @@ abbrev pub standingOf : List ℕ → ℕ → ℕ → ℕ → ℤ → List ℕ
 standingOf words status small large level =
     line (words ∷ decimalOf status ∷ decimalOf small ∷ decimalOf large ∷ wholeOf level ∷ [])
 
--- a day of wholesale demand response: "prints `D T FLAG UNDER OVER`"
+-- fields with one space between, and no end
+abbrev pub behind : List (List ℕ) → List ℕ
+behind [] = []
+behind (field ∷ fields) = 32 ∷ (field ++ behind fields)
+
+abbrev pub joined : List (List ℕ) → List ℕ
+joined [] = []
+joined (field ∷ fields) = field ++ behind fields
+
+-- the values of a day of wholesale demand response
+abbrev pub dayValuesOf : ℤ → ℕ → List ℕ → ℕ → ℕ → List ℕ
+dayValuesOf response target flag under over =
+    joined (wholeOf response ∷ decimalOf target ∷ flag ∷ decimalOf under ∷ decimalOf over ∷ [])
+
+-- its line: "prints `D T FLAG UNDER OVER`"
 abbrev pub dayLineOf : ℤ → ℕ → List ℕ → ℕ → ℕ → List ℕ
 dayLineOf response target flag under over =
     line (wholeOf response ∷ decimalOf target ∷ flag ∷ decimalOf under ∷ decimalOf over ∷ [])

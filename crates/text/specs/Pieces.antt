@@ -38,4 +38,4 @@ abbrev pub sumsPiece : ℤ → ℕ → List ℕ
 sumsPiece response target = wholeOf response ++ field (decimalOf target)
 
 abbrev pub countsPiece : ℕ → ℕ → List ℕ
-countsPiece under over = field (decimalOf under) ++ numberPiece over
+countsPiece under over = field (decimalOf under) ++ field (decimalOf over)

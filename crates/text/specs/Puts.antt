@@ -38,9 +38,9 @@ longestNumbered words = length words + 22
 abbrev pub longestStanding : List ℕ → ℕ
 longestStanding words = length words + 25
 
--- round the words: a sign and 19 digits, three times ten digits, four spaces and the end of the line
+-- round the words: a sign and 19 digits, three times ten digits and four spaces
 abbrev pub longestDay : List ℕ → ℕ
-longestDay flag = length flag + 55
+longestDay flag = length flag + 54
 
 -- a point's line: ten digits, twenty, four times three, eleven, ten and eleven, eight spaces and its end
 abbrev pub longestLine : ℕ

@@ -7,7 +7,7 @@ ghost use Prim.Native.Nat.{_+_, _*_};
 ghost use lib.Dec.{leb};
 ghost use lib.ListN.{length};
 ghost use Rattle.text.specs.Numbers.{decimalOf, wholeOf};
-ghost use Rattle.text.specs.Lines.{linesOf, numberedOf, standingOf, dayLineOf};
+ghost use Rattle.text.specs.Lines.{linesOf, numberedOf, standingOf, dayValuesOf};
 ghost use Rattle.text.specs.Puts.{PutWithin, longestNumber, longestWhole, longestNumbered, longestStanding, longestDay, longestLine, longestLines};
 
 // The longest number (u64), signed number (i32), and line of a point.
@@ -22,8 +22,8 @@ const BEHIND_NUMBERED: usize = 22;
 
 const BEHIND_STANDING: usize = 25;
 
-// The most that stands round the words of a day's line.
-const ROUND_FLAG: usize = 55;
+// The most that stands round the words of a day's values.
+const ROUND_FLAG: usize = 54;
 
 // Whether `room` bytes are left from `at` on.
 fn has_room(length: usize, at: usize, room: usize) -> bool
@@ -113,7 +113,7 @@ pub fn put_report(out: &mut [u8], at: usize, interval: u32, report: &[u8]) -> us
     at
 }
 
-// The line of a day of wholesale demand response: D, T, the flag in words, and the counts of under and of over intervals.
+// The values of a day of wholesale demand response: D, T, the flag in words, and the counts of under and of over intervals.
 pub fn put_day(
     out: &mut [u8],
     at: usize,
@@ -124,7 +124,7 @@ pub fn put_day(
     over: u32,
 ) -> usize
     ensures { λ r. ⌜ PutWithin (longestDay (now (flag .entry)))
-        (now (out .entry)) at (dayLineOf response target (now (flag .entry)) under over) r (now (out .exit)) ⌝ }
+        (now (out .entry)) at (dayValuesOf response target (now (flag .entry)) under over) r (now (out .exit)) ⌝ }
 {
     if has_room(out.len(), at, flag.len() + ROUND_FLAG) {
         return pieces::put_day(out, at, response, target, flag, under, over);

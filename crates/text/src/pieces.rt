@@ -4,7 +4,7 @@ ghost use Prim.Native.Nat.{_+_, _%_, _≤_, _<_};
 ghost use lib.ListN.{length, getD};
 ghost use Rattle.wire.specs.Fields.{wordAt, wholeAt};
 ghost use Rattle.text.specs.Numbers.{decimalOf, wholeOf};
-ghost use Rattle.text.specs.Lines.{lineOf, linesOf, numberedOf, standingOf, dayLineOf};
+ghost use Rattle.text.specs.Lines.{lineOf, linesOf, numberedOf, standingOf, dayValuesOf};
 ghost use Rattle.text.specs.Puts.{Room, Put};
 ghost use Rattle.text.specs.Pieces.{field, statusPiece, amountsPiece, numberPiece, runsPiece, levelPiece, sumsPiece, countsPiece};
 
@@ -225,7 +225,7 @@ pub(crate) fn put_standing(
     put_level(out, last, level)
 }
 
-// ---- the line of a day of wholesale demand response
+// ---- the values of a day of wholesale demand response
 
 // D and T.
 fn put_sums(out: &mut [u8], at: usize, response: i64, target: u32) -> usize
@@ -245,13 +245,13 @@ fn put_flag(out: &mut [u8], at: usize, flag: &[u8]) -> usize
     put_bytes(out, words, flag)
 }
 
-// Both counts and the end of the line.
+// Both counts.
 fn put_counts(out: &mut [u8], at: usize, under: u32, over: u32) -> usize
     requires { ⌜ Room (now out) at (countsPiece under over) ⌝ }
     ensures { λ r. ⌜ Put (now (out .entry)) at (countsPiece under over) r (now (out .exit)) ⌝ }
 {
     let second = put_field(out, at, under as u64);
-    put_last_number(out, second, over as u64)
+    put_field(out, second, over as u64)
 }
 
 pub(crate) fn put_day(
@@ -263,8 +263,8 @@ pub(crate) fn put_day(
     under: u32,
     over: u32,
 ) -> usize
-    requires { ⌜ Room (now out) at (dayLineOf response target (now flag) under over) ⌝ }
-    ensures { λ r. ⌜ Put (now (out .entry)) at (dayLineOf response target (now (flag .entry)) under over) r (now (out .exit)) ⌝ }
+    requires { ⌜ Room (now out) at (dayValuesOf response target (now flag) under over) ⌝ }
+    ensures { λ r. ⌜ Put (now (out .entry)) at (dayValuesOf response target (now (flag .entry)) under over) r (now (out .exit)) ⌝ }
 {
     let words = put_sums(out, at, response, target);
     let counts = put_flag(out, words, flag);

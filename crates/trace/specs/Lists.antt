@@ -1,8 +1,8 @@
 -- Lists of calls, whatever a call is: what a machine makes of them, lists that are alike, and what has held since an event.
 use mathlib.Core.Path.{_≡_}
-use mathlib.Core.Bool.{cond}
+use mathlib.Core.Bool.{Bool, cond}
 use mathlib.Core.List.{List, [], _∷_, _++_}
-use Prim.Native.Nat.{ℕ}
+use Prim.Native.Nat.{ℕ, suc}
 use lib.Dec.{eqb, ltb}
 
 -- a function with another value at one place, and with other values below k
@@ -11,6 +11,11 @@ updated i a f j = cond (eqb j i) a (f j)
 
 abbrev pub below : {A : Type 0} → ℕ → (ℕ → A) → (ℕ → A) → (ℕ → A)
 below k f g i = cond (ltb i k) (f i) (g i)
+
+-- how many of a list pass a test
+abbrev pub countIn : {A : Type 0} → (A → Bool) → List A → ℕ
+countIn test [] = 0
+countIn test (a ∷ rest) = cond (test a) (suc (countIn test rest)) (countIn test rest)
 
 -- the state after a list of calls, and the outcome of each, first call to last
 abbrev pub fold : {S C : Type 0} → (S → C → S) → S → List C → S

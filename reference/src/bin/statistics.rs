@@ -1,12 +1,15 @@
-//! `statistics FIRST LAST`: what the random lists of these seeds reach, what the random passes of seeds 1 to 8 reach, and what the
-//! random days of seeds 1 to 2000 reach; fails when something stays rare.
+//! `statistics FIRST LAST`: what the random lists of these seeds reach, what the random passes of seeds 1 to 8 reach, what the
+//! random days of seeds 1 to 2000 reach, and what the random ledgers of seeds 1 to 1000 reach; fails when something stays rare.
 
+use conformance::ledger::{self, Conduct, Date, Ledger};
 use conformance::line::{Kind, Line, Quality, LINE};
 use conformance::marks::{assess_aggregate, Member, Pass};
 use conformance::monitor::{Record, HEADER, NON_CONFORMING, NOT_RESPONDING, PENDING};
+use conformance::random_ledgers::{Sort, SORTS};
 use conformance::replay::{Call, Calls, MAX_REPORT};
 use conformance::response::{self, Assessment, Flag};
-use conformance::{passes, random_calls, random_days, random_passes, Look, Mark, Monitor, Plant, Refusal};
+use conformance::{passes, random_calls, random_days, random_ledgers, random_passes};
+use conformance::{Look, Mark, Monitor, Plant, Refusal};
 use std::collections::{BTreeMap, BTreeSet};
 use std::process::ExitCode;
 
@@ -103,6 +106,108 @@ const DAY_VALUES: [&str; 12] = [
     "BSQ below, target 0",
     "ME above, target 0",
     "ME below, target 0",
+];
+/// Seeds of the random ledgers.
+const LEDGER_SEEDS: std::ops::RangeInclusive<u64> = 1..=1_000;
+/// Where the third instance falls, against the date three months after the first.
+const WHENS: [&str; 5] = ["one day early", "on the very day", "one day late", "days early", "days late"];
+/// What is asked of the days that a ledger accepts.
+const LEDGERS: [&str; 44] = [
+    "without dispatch",
+    "conformant",
+    "instance",
+    "instance by the day's flag under alone",
+    "instance by the day's flag over alone",
+    "instance by under intervals alone",
+    "instance by over intervals alone",
+    "instance by under and over intervals alone",
+    "instance by the day's flag and intervals",
+    "on 1 January 2000",
+    "on 29 February",
+    "on 29 February 2000",
+    "on 29 February 2096",
+    "on 1 March",
+    "on 31 December",
+    "on 31 December 2099",
+    "on the day after the latest",
+    "three months or more after the latest",
+    "first accepted day, instance",
+    "first accepted day, without dispatch",
+    "third instance declares",
+    "third instance does not declare",
+    "fourth instance declares",
+    "fourth instance does not declare",
+    "fifth or later instance declares",
+    "fifth or later instance does not declare",
+    "one day late, conformant between the first and the second alone",
+    "one day late, conformant between the second and the third alone",
+    "one day late, conformant in both gaps",
+    "one day late, days without dispatch alone between",
+    "on the very day, days without dispatch alone between",
+    "late, conformant before the first alone",
+    "late, a refused conformant day between alone",
+    "over the turn of a year, on the very day, a conformant day between",
+    "over the turn of a year, one day late, a conformant day between",
+    "three months after the first in 2100, a conformant day between",
+    "third on 29 February",
+    "declares again after a reinstatement",
+    "first or second instance after a reinstatement, declares with those before it",
+    "while declared, instance",
+    "while declared, instance at which the rule does not hold",
+    "while declared, conformant",
+    "while declared, without dispatch",
+    "instance at the end of two or more refused calls",
+];
+/// What is asked of the days refused by 31 and 32 in a ledger.
+const LEDGER_FILES: [&str; 4] = ["no such date", "date not later", "otherwise accepted", "while declared"];
+/// What is asked of the days refused by 33.
+const NO_DATES: [&str; 20] = [
+    "month 0",
+    "month 13",
+    "month 4294967295",
+    "day 0",
+    "day 32",
+    "day 4294967295",
+    "31 of a month of 30 days",
+    "29 February of a common year",
+    "30 February of a leap year",
+    "30 or 31 February of a common year",
+    "year 0",
+    "year 1999",
+    "year 2100",
+    "year 4294967295",
+    "not later either",
+    "later than the latest",
+    "before any accepted day",
+    "while declared",
+    "otherwise the third instance",
+    "conformant by its bytes",
+];
+/// What is asked of the days refused by 34.
+const NOT_LATER: [&str; 10] = [
+    "the latest date again",
+    "the day before the latest",
+    "an earlier month, a higher day number",
+    "an earlier year, a higher month number",
+    "the latest was without dispatch",
+    "first after a reinstatement",
+    "31 December 2099 reached",
+    "while declared",
+    "otherwise the third instance",
+    "conformant by its bytes",
+];
+/// What is asked of the reinstatements refused by 35.
+const NOT_DECLARED: [&str; 5] =
+    ["no accepted day", "no instance", "one instance", "two instances or more", "just reinstated"];
+/// Why a call of a ledger cannot be read.
+const UNREAD: [&str; 7] = [
+    "head cut short",
+    "payload over 8192 bytes",
+    "payload cut short",
+    "unknown tag",
+    "reinstatement with a payload",
+    "day without a whole date",
+    "calls before it and after it",
 ];
 
 /// Counts under a name.
@@ -461,6 +566,361 @@ fn meet_assessed(
     }
 }
 
+fn sort_name(sort: Sort) -> &'static str {
+    match sort {
+        Sort::ToThirty => "31, to a month of 30 days",
+        Sort::ThirtyToTwentyEight => "30 November, to 28 February",
+        Sort::ThirtyToTwentyNine => "30 November, to 29 February",
+        Sort::TwentyNineToTwentyEight => "29 November, to 28 February",
+        Sort::ToLeapFebruary => "28 or 29 November, to a February of 29 days",
+        Sort::LastToLonger => "the last of a month, to a longer one",
+        Sort::LastToLast => "the last of a month, to one as long",
+        Sort::Other => "any other date",
+    }
+}
+
+/// Counts what the random ledgers reach.
+fn count_random_ledgers(counts: &mut Counts) {
+    let (mut bytes, mut longest, mut calls, mut most) = (0, 0, 0, 0);
+    for seed in LEDGER_SEEDS {
+        let list = random_ledgers::list(seed);
+        if list.as_ref().is_none_or(Vec::is_empty) {
+            counts.add(format!("ledgers: {}", if list.is_none() { "missing file" } else { "empty file" }));
+        }
+        let list = list.unwrap_or_default();
+        bytes += list.len();
+        longest = longest.max(list.len());
+        let mut watch = Watch::default();
+        for call in ledger::Calls::new(&list) {
+            let answer = match call {
+                Ok(ledger::Call::Day { date, file }) => watch.day(counts, date, file),
+                Ok(ledger::Call::Reinstate) => watch.reinstate(counts),
+                Err(place) => {
+                    count_unread(counts, &list, place);
+                    continue;
+                }
+            };
+            watch.refused_in_a_row = if answer.is_ok() { 0 } else { watch.refused_in_a_row + 1 };
+            watch.calls += 1;
+        }
+        calls += watch.calls;
+        most = most.max(watch.calls);
+    }
+    println!("ledgers: {bytes} bytes, longest {longest}, {calls} calls that can be read, most in one {most}");
+}
+
+/// Why the call at this place cannot be read.
+fn count_unread(counts: &mut Counts, list: &[u8], place: usize) {
+    let rest = &list[place..];
+    let word = |at: usize| rest[at..at + 4].iter().rev().fold(0, |word, &byte| 256 * word + usize::from(byte));
+    let mut add = |what: &str| counts.add(format!("ledgers: script error, {what}"));
+    if rest.len() < ledger::HEAD {
+        add("head cut short");
+        return;
+    }
+    let (tag, length) = (word(0), word(4));
+    add(match (tag, length) {
+        _ if length > ledger::MAX_PAYLOAD => "payload over 8192 bytes",
+        _ if length > rest.len() - ledger::HEAD => "payload cut short",
+        (1, _) => "day without a whole date",
+        (2, _) => "reinstatement with a payload",
+        _ => "unknown tag",
+    });
+    if place == 0 {
+        add("in the first call");
+    } else if rest.len() > ledger::HEAD + length {
+        add("calls before it and after it");
+    }
+}
+
+/// A ledger that is run again, and what it does not tell.
+#[derive(Default)]
+struct Watch {
+    ledger: Ledger,
+    calls: usize,
+    refused_in_a_row: usize,
+    reinstatements: usize,
+    /// Accepted instances before the last reinstatement.
+    before: Vec<Date>,
+    /// For each conformant day that was refused since, the accepted days that there were.
+    refused: Vec<usize>,
+}
+
+/// Places of three instances among the days: the last three.
+fn latest_three(days: &[(Date, Conduct)]) -> Option<[usize; 3]> {
+    let instances: Vec<usize> = (0..days.len()).filter(|&place| days[place].1 == Conduct::Instance).collect();
+    instances.last_chunk().copied()
+}
+
+impl Watch {
+    fn instances(&self) -> usize {
+        self.ledger.days().iter().filter(|(_, conduct)| *conduct == Conduct::Instance).count()
+    }
+
+    fn reinstate(&mut self, counts: &mut Counts) -> Result<(), Refusal> {
+        let days = self.ledger.days().to_vec();
+        let instances = self.instances();
+        let answer = self.ledger.reinstate();
+        counts.answer("ledgers: reinstate", &answer);
+        if answer.is_ok() {
+            self.reinstatements += 1;
+            let instances = days.iter().filter(|(_, conduct)| *conduct == Conduct::Instance);
+            self.before.extend(instances.map(|&(date, _)| date));
+            self.refused.clear();
+        } else {
+            let mut add = |what: &str| counts.add(format!("ledgers: reinstate refused 35, {what}"));
+            add(match instances {
+                _ if self.ledger.latest().is_none() => "no accepted day",
+                _ if days.is_empty() => "just reinstated",
+                0 => "no instance",
+                1 => "one instance",
+                _ => "two instances or more",
+            });
+        }
+        answer
+    }
+
+    fn day(&mut self, counts: &mut Counts, date: Date, file: &[u8]) -> Result<(), Refusal> {
+        let declared = self.ledger.is_declared();
+        let latest = self.ledger.latest();
+        let answer = self.ledger.day_of_file(date, file);
+        counts.answer("ledgers: day", &answer);
+        let mut met = BTreeSet::new();
+        match answer {
+            Ok(found) => {
+                self.meet_accepted(counts, &mut met, latest, declared, found);
+                met.iter().for_each(|name| counts.add(format!("ledgers: {name}")));
+            }
+            Err(refusal) => {
+                if declared {
+                    met.insert("while declared");
+                }
+                self.meet_refused(&mut met, date, file, refusal);
+                met.iter().for_each(|name| counts.add(format!("ledgers: day {refusal}, {name}")));
+            }
+        }
+        answer.map(|_| ())
+    }
+
+    fn meet_accepted(
+        &self,
+        counts: &mut Counts,
+        met: &mut BTreeSet<&str>,
+        latest: Option<Date>,
+        declared: bool,
+        found: Assessment,
+    ) {
+        let mut meet = |reached: bool, name| {
+            if reached {
+                met.insert(name);
+            }
+        };
+        let days = self.ledger.days();
+        let (date, conduct) = days[days.len() - 1];
+        meet(true, conduct_name(conduct));
+        meet(latest.is_none() && conduct == Conduct::Instance, "first accepted day, instance");
+        meet(latest.is_none() && conduct == Conduct::WithoutDispatch, "first accepted day, without dispatch");
+        match (date.year, date.month, date.day) {
+            (2_000, 1, 1) => meet(true, "on 1 January 2000"),
+            (year, 2, 29) => {
+                meet(true, "on 29 February");
+                meet(year == 2_000, "on 29 February 2000");
+                meet(year == 2_096, "on 29 February 2096");
+            }
+            (_, 3, 1) => meet(true, "on 1 March"),
+            (year, 12, 31) => {
+                meet(true, "on 31 December");
+                meet(year == 2_099, "on 31 December 2099");
+            }
+            _ => {}
+        }
+        if let Some(latest) = latest {
+            meet(latest.day_after() == date, "on the day after the latest");
+            meet(latest.three_months_later() <= date, "three months or more after the latest");
+        }
+        if declared {
+            meet(true, while_declared(conduct));
+        }
+        if conduct != Conduct::Instance {
+            return;
+        }
+        meet(self.refused_in_a_row >= 2, "instance at the end of two or more refused calls");
+        meet(
+            true,
+            match (found.flag, found.under, found.over) {
+                (Flag::Under, 0, 0) => "instance by the day's flag under alone",
+                (Flag::Over, 0, 0) => "instance by the day's flag over alone",
+                (Flag::None, _, 0) => "instance by under intervals alone",
+                (Flag::None, 0, _) => "instance by over intervals alone",
+                (Flag::None, _, _) => "instance by under and over intervals alone",
+                _ => "instance by the day's flag and intervals",
+            },
+        );
+
+        let instances = self.instances();
+        let Some([first, second, third]) = latest_three(days) else {
+            // The same with the instances before the reinstatement.
+            let mut all = self.before.clone();
+            all.extend(days.iter().filter(|(_, conduct)| *conduct == Conduct::Instance).map(|&(date, _)| date));
+            let within = all.last_chunk().is_some_and(|[first, _, third]| *third <= first.three_months_later());
+            meet(within, "first or second instance after a reinstatement, declares with those before it");
+            return;
+        };
+        let any = |places: std::ops::Range<usize>, wanted| days[places].iter().any(|&(_, conduct)| conduct == wanted);
+        let conformant = any(first..third, Conduct::Conformant);
+        let without_dispatch = any(first..third, Conduct::WithoutDispatch);
+        let border = days[first].0.three_months_later();
+        let in_time = date <= border;
+        let holds = in_time || !conformant;
+        if declared {
+            meet(!holds, "while declared, instance at which the rule does not hold");
+            return;
+        }
+        meet(
+            true,
+            match (instances, holds) {
+                (3, true) => "third instance declares",
+                (3, false) => "third instance does not declare",
+                (4, true) => "fourth instance declares",
+                (4, false) => "fourth instance does not declare",
+                (_, true) => "fifth or later instance declares",
+                (_, false) => "fifth or later instance does not declare",
+            },
+        );
+        let when = match border {
+            _ if date == border => "on the very day",
+            _ if date.day_after() == border => "one day early",
+            _ if border.day_after() == date => "one day late",
+            _ if in_time => "days early",
+            _ => "days late",
+        };
+        let between = if conformant { "a conformant day between" } else { "no conformant day between" };
+        counts.add(format!("ledgers: {when}, {between}"));
+        if conformant {
+            counts.add(format!("ledgers: first on {}, {when}, {between}", sort_name(Sort::of(days[first].0))));
+        }
+        let (one_late, very_day) = (when == "one day late", when == "on the very day");
+        if one_late {
+            match (any(first..second, Conduct::Conformant), any(second..third, Conduct::Conformant)) {
+                (true, false) => meet(true, "one day late, conformant between the first and the second alone"),
+                (false, true) => meet(true, "one day late, conformant between the second and the third alone"),
+                (true, true) => meet(true, "one day late, conformant in both gaps"),
+                _ => meet(without_dispatch, "one day late, days without dispatch alone between"),
+            }
+        }
+        let alone = !conformant && without_dispatch;
+        meet(very_day && alone, "on the very day, days without dispatch alone between");
+        let late_without = !in_time && !conformant;
+        meet(late_without && any(0..first, Conduct::Conformant), "late, conformant before the first alone");
+        let refused = self.refused.iter().any(|&place| first < place && place <= third);
+        meet(late_without && refused, "late, a refused conformant day between alone");
+        let turn = conformant && days[first].0.year < date.year;
+        meet(turn && very_day, "over the turn of a year, on the very day, a conformant day between");
+        meet(turn && one_late, "over the turn of a year, one day late, a conformant day between");
+        meet(border.year == 2_100 && conformant, "three months after the first in 2100, a conformant day between");
+        meet((date.month, date.day) == (2, 29), "third on 29 February");
+        meet(holds && self.reinstatements > 0, "declares again after a reinstatement");
+    }
+
+    fn meet_refused(&mut self, met: &mut BTreeSet<&str>, date: Date, file: &[u8], refusal: Refusal) {
+        let latest = self.ledger.latest();
+        let not_later = latest.is_some_and(|latest| date <= latest);
+        let days = self.ledger.days();
+        let third = self.instances() == 2;
+        let mut meet = |reached: bool, name| {
+            if reached {
+                met.insert(name);
+            }
+        };
+        match refusal {
+            Refusal::DayLength | Refusal::DayValue => {
+                meet(!date.exists(), "no such date");
+                meet(date.exists() && not_later, "date not later");
+                meet(date.exists() && !not_later, "otherwise accepted");
+                meet(file.is_empty(), "no bytes after the date");
+                meet((1..response::EARLIER).contains(&file.len()), "fewer than 4 bytes after the date");
+                meet(ledger::DATE + file.len() == ledger::MAX_PAYLOAD, "payload of 8192 bytes");
+                return;
+            }
+            Refusal::NoSuchDate => {
+                meet(true, no_date_name(date));
+                meet(not_later, "not later either");
+                meet(latest.is_some() && !not_later, "later than the latest");
+                meet(latest.is_none(), "before any accepted day");
+            }
+            _ => {
+                let Some(latest) = latest else { return };
+                meet(date == latest, "the latest date again");
+                meet(date.day_after() == latest, "the day before the latest");
+                let same_year = date.year == latest.year;
+                meet(same_year && date.month < latest.month && date.day > latest.day, NOT_LATER[2]);
+                meet(date.year < latest.year && date.month > latest.month, NOT_LATER[3]);
+                let idle = days.last().is_some_and(|(_, conduct)| *conduct == Conduct::WithoutDispatch);
+                meet(idle, "the latest was without dispatch");
+                meet(days.is_empty(), "first after a reinstatement");
+                meet(latest == Date::new(2_099, 12, 31), "31 December 2099 reached");
+            }
+        }
+        let conduct = response::assess_file(file).map(Conduct::of);
+        meet(third && conduct == Ok(Conduct::Instance), "otherwise the third instance");
+        if conduct == Ok(Conduct::Conformant) {
+            meet(true, "conformant by its bytes");
+            self.refused.push(days.len());
+        }
+    }
+}
+
+fn conduct_name(conduct: Conduct) -> &'static str {
+    match conduct {
+        Conduct::WithoutDispatch => "without dispatch",
+        Conduct::Conformant => "conformant",
+        Conduct::Instance => "instance",
+    }
+}
+
+fn while_declared(conduct: Conduct) -> &'static str {
+    match conduct {
+        Conduct::WithoutDispatch => "while declared, without dispatch",
+        Conduct::Conformant => "while declared, conformant",
+        Conduct::Instance => "while declared, instance",
+    }
+}
+
+/// The part for which there is no such date, if it is one.
+fn no_date_name(date: Date) -> &'static str {
+    let Date { year, month, day } = date;
+    let (year_fits, month_fits) = (ledger::YEARS.contains(&year), (1..=12).contains(&month));
+    match (year_fits, month_fits, (1..=31).contains(&day)) {
+        (false, true, true) => match year {
+            0 => "year 0",
+            1_999 => "year 1999",
+            2_100 => "year 2100",
+            u32::MAX => "year 4294967295",
+            _ => "another year",
+        },
+        (true, false, true) => match month {
+            0 => "month 0",
+            13 => "month 13",
+            u32::MAX => "month 4294967295",
+            _ => "another month",
+        },
+        (true, true, false) => match day {
+            0 => "day 0",
+            32 => "day 32",
+            u32::MAX => "day 4294967295",
+            _ => "another day",
+        },
+        (true, true, true) => match (month, day) {
+            (2, 29) => "29 February of a common year",
+            (2, 30) if ledger::is_leap(year) => "30 February of a leap year",
+            (2, _) if ledger::is_leap(year) => "31 February of a leap year",
+            (2, _) => "30 or 31 February of a common year",
+            _ => "31 of a month of 30 days",
+        },
+        _ => "two parts or more",
+    }
+}
+
 fn is_member(plant: &Plant, unit: usize) -> bool {
     !plant.loners().contains(&(unit as u8))
 }
@@ -638,6 +1098,7 @@ fn main() -> ExitCode {
     }
     count_random_passes(&mut counts);
     count_random_days(&mut counts);
+    count_random_ledgers(&mut counts);
     println!("seeds {first} to {last}: {bytes} bytes, longest list {longest}");
     for (name, count) in &counts.0 {
         println!("{count:>9} {name}");
@@ -730,6 +1191,31 @@ fn main() -> ExitCode {
     wanted.extend(ERRORS.iter().map(|error| format!("days: interval with an error of {error}")));
     wanted.extend(DAY_LENGTHS.iter().map(|what| format!("days: refused 31, {what}")));
     wanted.extend(DAY_VALUES.iter().map(|what| format!("days: refused 32, {what}")));
+    for (call, refusals) in [("day", &[31, 32, 33, 34][..]), ("reinstate", &[35])] {
+        wanted.push(format!("ledgers: {call} accepted"));
+        wanted.extend(refusals.iter().map(|number| format!("ledgers: {call} refused {number}")));
+    }
+    wanted.extend(LEDGERS.iter().map(|what| format!("ledgers: {what}")));
+    for when in WHENS {
+        for between in ["a conformant day between", "no conformant day between"] {
+            wanted.push(format!("ledgers: {when}, {between}"));
+        }
+    }
+    for sort in SORTS {
+        for when in ["on the very day", "one day late"] {
+            wanted.push(format!("ledgers: first on {}, {when}, a conformant day between", sort_name(sort)));
+        }
+    }
+    for what in LEDGER_FILES {
+        wanted.push(format!("ledgers: day refused 31, {what}"));
+        wanted.push(format!("ledgers: day refused 32, {what}"));
+    }
+    wanted.push("ledgers: day refused 31, no bytes after the date".into());
+    wanted.push("ledgers: day refused 31, fewer than 4 bytes after the date".into());
+    wanted.extend(NO_DATES.iter().map(|what| format!("ledgers: day refused 33, {what}")));
+    wanted.extend(NOT_LATER.iter().map(|what| format!("ledgers: day refused 34, {what}")));
+    wanted.extend(NOT_DECLARED.iter().map(|what| format!("ledgers: reinstate refused 35, {what}")));
+    wanted.extend(UNREAD.iter().map(|what| format!("ledgers: script error, {what}")));
     wanted.push("script error".into());
     wanted.push("interval jump".into());
     let rare: Vec<&String> = wanted.iter().filter(|name| counts.0.get(*name).copied().unwrap_or(0) < LEAST).collect();

@@ -6,7 +6,8 @@ use Prim.Native.Nat.{ℕ}
 use lib.ListN.{length, take, drop, replicate, length-replicate}
 use lib.Seq.{length-take-le}
 use Rattle.wire.specs.Fields.{wordAt}
-use Rattle.script.proofs.Readings.{behind, interval-short, interval-long, interval-read}
+use Rattle.frames.proofs.Calls.{behind}
+use Rattle.script.proofs.Readings.{interval-short, interval-long, interval-read}
 use Rattle.script.proofs.Answers.{same-interval}
 use Rattle.script.proofs.interval_call.Statement.{statement}
 use Rattle.script.proofs.interval_call.Tie as tie

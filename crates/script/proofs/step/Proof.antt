@@ -1,42 +1,45 @@
 -- `script::step` meets its contract. Assumes nothing.
+use native.Mathlib.Omega.{arith}
 use borrow.Author.Needs.{needs}
-use mathlib.Core.Path.{sym, _∙_}
-use Rattle.script.proofs.Readings.{behind, item-short, item-whole, item-not-whole, step-item, step-end}
+use mathlib.Core.Path.{_≡_, sym, _∙_}
+use mathlib.Core.Bool.{true}
+use Prim.Native.Nat.{_≤_}
+use lib.ListN.{length}
+use Rattle.frames.specs.Frames.{isFrame}
+use Rattle.frames.proofs.Calls.{behind, frame-long}
+use Rattle.script.proofs.Readings.{item-frame, item-unread, step-item, step-end}
 use Rattle.script.proofs.step.Statement.{statement}
 use Rattle.script.proofs.step.Tie as tie
 
 abbrev start : tie.Else1 → tie.Start
 start c = c .before .before
 
-abbrev taken : tie.After-payload-call → tie.Then3
+abbrev test : tie.After-is-frame → tie.Else1
+test c = c .before
+
+abbrev taken : tie.After-payload-call → tie.Then2
 taken c = c .before .before .before .before
 
-abbrev test : tie.After-is-whole → tie.Else1
-test c = c .before .before
+framed : (c : tie.Then2) → isFrame (start (test (c .before)) .args .call .now) ≡ true
+framed c = sym (c .before .is-frame .ensures) ∙ c .if2 .taken
+
+long : (c : tie.Then2) → 8 ≤ length (start (test (c .before)) .args .call .now)
+long c = frame-long _ (framed c)
 
 returns : tie.Need-returns
 returns c = step-end _ _ _ _ (c .if1 .taken)
 
-unreadable-requires : tie.Need-unreadable-requires
-unreadable-requires c κs = search needs
-
-returns-2 : tie.Need-returns-2
-returns-2 c =
-    let t = c .before .before in
-    let s = start (t .before) .args in
-    rw (step-item (s .m) (s .at) (s .call .now) (t .before .if1 .left), item-short (s .call .now) (t .if2 .taken)) (c .unreadable .ensures)
-
-is-whole-requires : tie.Need-is-whole-requires
-is-whole-requires c κs = search needs
+is-frame-requires : tie.Need-is-frame-requires
+is-frame-requires c κs = search needs
 
 word-at-requires : tie.Need-word-at-requires
-word-at-requires c κs = search needs
+word-at-requires c κs = omega (arith, long c)
 
 sub-payload-call : tie.Need-sub-payload-call
-sub-payload-call c = search needs
+sub-payload-call c = omega (arith, long (c .before))
 
 part-payload-call-start : tie.Need-part-payload-call-start
-part-payload-call-start c = search needs
+part-payload-call-start c = omega (arith, long (c .before))
 
 part-payload-call-end : tie.Need-part-payload-call-end
 part-payload-call-end c = search needs
@@ -44,45 +47,41 @@ part-payload-call-end c = search needs
 payload-call-requires : tie.Need-payload-call-requires
 payload-call-requires c κs = search needs
 
-returns-3 : tie.Need-returns-3
-returns-3 c =
+returns-2 : tie.Need-returns-2
+returns-2 c =
     let t = taken c in
-    let w = t .before in
-    let s = start (test w) .args in
+    let s = start (test (t .before)) .args in
     rw (
-      step-item (s .m) (s .at) (s .call .now) (test w .if1 .left),
-      item-whole (s .call .now) (w .before .if2 .left) (sym (w .is-whole .ensures) ∙ t .if3 .taken),
+      step-item (s .m) (s .at) (s .call .now) (test (t .before) .if1 .left),
+      item-frame (s .call .now) (framed t),
       sym (c .before .before .before .word-at .ensures),
     )
     (rw (behind 8 (s .call .now)) at (c .payload-call .ensures))
 
-unreadable-requires-2 : tie.Need-unreadable-requires-2
-unreadable-requires-2 c κs = search needs
+unreadable-requires : tie.Need-unreadable-requires
+unreadable-requires c κs = search needs
 
-returns-4 : tie.Need-returns-4
-returns-4 c =
+returns-3 : tie.Need-returns-3
+returns-3 c =
     let t = c .before .before in
-    let w = t .before in
-    let s = start (test w) .args in
+    let s = start (test (t .before)) .args in
     rw (
-      step-item (s .m) (s .at) (s .call .now) (test w .if1 .left),
-      item-not-whole (s .call .now) (w .before .if2 .left) (sym (w .is-whole .ensures) ∙ t .if3 .left),
+      step-item (s .m) (s .at) (s .call .now) (test (t .before) .if1 .left),
+      item-unread (s .call .now) (sym (t .before .is-frame .ensures) ∙ t .if2 .left),
     )
-    (c .unreadable2 .ensures)
+    (c .unreadable .ensures)
 
 pub step-spec : {M : Type 1} → statement M
 step-spec =
     tie.close
     (tie.spec
     returns
-    unreadable-requires
-    returns-2
-    is-whole-requires
+    is-frame-requires
     word-at-requires
     sub-payload-call
     part-payload-call-start
     part-payload-call-end
     payload-call-requires
-    returns-3
-    unreadable-requires-2
-    returns-4)
+    returns-2
+    unreadable-requires
+    returns-3)

@@ -7,7 +7,7 @@ use lib.ListN.{length}
 use mir.Syntax.{w64}
 use mir.Val.{toZ, ofZ}
 use mir.ValLaws.{toZ-ofZ}
-use Rattle.text.specs.Lines.{dayLineOf}
+use Rattle.text.specs.Lines.{dayValuesOf}
 use Rattle.text.specs.Puts.{hasRoom, longestDay}
 use Rattle.text.proofs.Rooms.{room-by, within-put, within-none, day-longest}
 use Rattle.text.proofs.put_day.Statement.{statement}
@@ -24,7 +24,7 @@ response-is : (c : tie.Start) → toZ w64 (ofZ w64 (c .args .response)) ≡ c .a
 response-is c = toZ-ofZ w64 (c .args .response) (c .fits .response)
 
 longest : (c : tie.Start) → let a = c .args in
-    length (dayLineOf (a .response) (a .target) (a .flag .now) (a .under) (a .over)) ≤ longestDay (a .flag .now)
+    length (dayValuesOf (a .response) (a .target) (a .flag .now) (a .under) (a .over)) ≤ longestDay (a .flag .now)
 longest c =
     let a = c .args in
     let f = c .fits in

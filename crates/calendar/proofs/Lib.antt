@@ -1,0 +1,5 @@
+-- What belongs to no one function.
+pub mod Months
+pub mod Years
+pub mod Places
+pub mod Finds
