@@ -1,11 +1,11 @@
 #!/usr/bin/env python3
-"""What the three programs do with their descriptors, on data folders of tests/.
+"""What the four programs do with their descriptors, on data folders of tests/.
 
-    programs.py BIN    BIN is the folder of monitor_main, replay and response_day
+    programs.py BIN    BIN is the folder of monitor_main, replay, response_day and response_ledger
 
 - A write that fails ends the run, with one line on standard error that names the program and standard output.
 - An interval, a call of a list, and a day, is answered in one write.
-- Nothing is held back by monitor_main and replay: an answer can be read before the next interval or call is sent.
+- Nothing is held back by monitor_main, replay and response_ledger: an answer can be read before the next interval or call is sent.
 """
 
 import contextlib
@@ -44,8 +44,8 @@ def intervals(folder):
     return [sent[at:at + size] for at in range(0, len(sent), size)]
 
 
-def calls(folder):
-    sent = (folder / "calls.bin").read_bytes()
+def calls(file):
+    sent = file.read_bytes()
     at, found = 0, []
     while at < len(sent):
         _, length = struct.unpack_from("<II", sent, at)  # tag and length of the payload
@@ -61,7 +61,7 @@ def interval_answers(folder):
 
 
 def call_answers(folder):
-    """Each answer begins with a line of words; the lines of an accepted interval follow it."""
+    """Each answer begins with a line of words; the lines of an accepted interval follow it, and nothing any other."""
     return re.findall(rb"[a-z].*\n(?:[0-9].*\n)*", (folder / "expected").read_bytes())
 
 
@@ -141,12 +141,14 @@ def nothing_held_back(program, folder, file, sent, answers):
 
 def checks(programs):
     """Program and data folder of each check, and the check."""
-    monitor_main, replay, response_day = programs / "monitor_main", programs / "replay", programs / "response_day"
+    monitor_main, replay = programs / "monitor_main", programs / "replay"
+    response_day, response_ledger = programs / "response_day", programs / "response_ledger"
     for program, folder in (
         (monitor_main, TESTS / "program" / "largest"),
         (replay, TESTS / "calls" / "every_status"),
         (response_day, TESTS / "days" / "three_events"),
         (response_day, TESTS / "days" / "missing"),
+        (response_ledger, TESTS / "ledgers" / "each_answer"),
     ):
         yield program, folder, failed_write, ()
     for name in "largest", "chain", "refused_21":
@@ -158,10 +160,15 @@ def checks(programs):
     for name in "three_events", "largest_negative", "missing", "past_first_target_2000001":
         folder = TESTS / "days" / name
         yield response_day, folder, one_write_each, (day_answers(folder),)
+    for name in "each_answer", "year_2024":
+        folder = TESTS / "ledgers" / name
+        yield response_ledger, folder, one_write_each, (call_answers(folder),)
     folder = TESTS / "program" / "chain"
     yield monitor_main, folder, nothing_held_back, ("intervals.bin", intervals(folder), interval_answers(folder))
     folder = TESTS / "calls" / "every_status"
-    yield replay, folder, nothing_held_back, ("calls.bin", calls(folder), call_answers(folder))
+    yield replay, folder, nothing_held_back, ("calls.bin", calls(folder / "calls.bin"), call_answers(folder))
+    folder = TESTS / "ledgers" / "each_answer"
+    yield response_ledger, folder, nothing_held_back, ("ledger.bin", calls(folder / "ledger.bin"), call_answers(folder))
 
 
 def main(arguments):

@@ -1,9 +1,10 @@
 //! Wholesale demand response over the year: the instances of non-conformance of one unit, and its declaration.
 //!
 //! A ledger keeps the accepted days since the last accepted reinstatement, as they came, and the date of the latest; the rule is
-//! looked up in that list. A list of calls is bytes, each call a u32 tag, a u32 payload length and the payload, little-endian:
-//! 1 day (u32 year, u32 month, u32 day, then the bytes of a file of [`response`](crate::response)), 2 reinstate (nothing).
+//! looked up in that list. The calls of a list of [`frames`](crate::frames), by tag: 1 day (u32 year, u32 month, u32 day, then the
+//! bytes of a file of [`response`](crate::response)), 2 reinstate (nothing).
 
+use crate::frames;
 use crate::refusal::Refusal;
 use crate::response::{self, Assessment, Flag};
 use std::io::{self, Write};
@@ -11,11 +12,8 @@ use std::io::{self, Write};
 pub const DAY: u32 = 1;
 pub const REINSTATE: u32 = 2;
 
-/// Bytes of a call's tag and payload length.
-pub const HEAD: usize = 8;
 /// Bytes of a date.
 pub const DATE: usize = 12;
-pub const MAX_PAYLOAD: usize = 8_192;
 
 /// The first year and the last.
 pub const YEARS: std::ops::RangeInclusive<u32> = 2_000..=2_099;
@@ -180,60 +178,24 @@ pub enum Call<'a> {
     Reinstate,
 }
 
-/// The calls of a list; an error is the place of the tag of a call that cannot be read, and ends the list.
-pub struct Calls<'a> {
-    bytes: &'a [u8],
-    at: usize,
-    ended: bool,
-}
+/// The calls of a list.
+pub type Calls<'a> = frames::Calls<'a, Call<'a>>;
 
 impl<'a> Calls<'a> {
     pub fn new(bytes: &'a [u8]) -> Self {
-        Self { bytes, at: 0, ended: false }
+        Self::of(bytes, read_call)
     }
 }
 
-impl<'a> Iterator for Calls<'a> {
-    type Item = Result<Call<'a>, usize>;
-
-    fn next(&mut self) -> Option<Self::Item> {
-        if self.ended || self.at == self.bytes.len() {
-            return None;
-        }
-        let place = self.at;
-        match read_call(&self.bytes[place..]) {
-            Some((call, length)) => {
-                self.at += length;
-                Some(Ok(call))
-            }
-            None => {
-                self.ended = true;
-                Some(Err(place))
-            }
-        }
-    }
-}
-
-fn word(bytes: &[u8]) -> Option<(u32, &[u8])> {
-    let (first, rest) = bytes.split_first_chunk()?;
-    Some((u32::from_le_bytes(*first), rest))
-}
-
-/// A call and the bytes it takes.
-fn read_call(bytes: &[u8]) -> Option<(Call<'_>, usize)> {
-    let (tag, rest) = word(bytes)?;
-    let (length, rest) = word(rest)?;
-    let length = usize::try_from(length).ok().filter(|&length| length <= MAX_PAYLOAD)?;
-    let payload = rest.get(..length)?;
-    let call = match tag {
+fn read_call(tag: u32, payload: &[u8]) -> Option<Call<'_>> {
+    match tag {
         DAY => {
             let (date, file) = payload.split_first_chunk()?;
-            Call::Day { date: Date::read(date), file }
+            Some(Call::Day { date: Date::read(date), file })
         }
-        REINSTATE if payload.is_empty() => Call::Reinstate,
-        _ => return None,
-    };
-    Some((call, HEAD + length))
+        REINSTATE if payload.is_empty() => Some(Call::Reinstate),
+        _ => None,
+    }
 }
 
 /// Runs the list on an empty ledger and prints one line a call.

@@ -12,10 +12,13 @@
 //! - [`response`]: one day of wholesale demand response, energy in Wh and errors in W, without state; refusals 31 and 32
 //! - [`ledger`]: its days over the year, the declaration by three instances, lists of its calls; refusals 33 to 35
 //!
-//! Around them: [`program`] and [`replay`] print what the calls answer, [`passes`] what the pass over an aggregate's members
-//! returns; [`random_calls`], [`random_passes`], [`random_days`], [`random_ledgers`] and [`bench_input`] make input.
+//! Around them: [`frames`] reads lists of calls from bytes, for [`replay`] and [`ledger`]; [`program`] and [`replay`] print what
+//! the calls answer, [`passes`] what the pass over an aggregate's members returns; [`random_calls`], [`random_passes`],
+//! [`random_days`], [`random_ledgers`] and [`bench_input`] make input, [`folders`] writes it for many seeds.
 
 pub mod bench_input;
+pub mod folders;
+pub mod frames;
 pub mod ledger;
 pub mod line;
 pub mod marks;

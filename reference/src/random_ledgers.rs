@@ -5,7 +5,8 @@
 //! Where a list starts, the sort of date on which a chain starts and how a list ends go by its seed, so that seeds in a row meet
 //! everything in equal shares; refused calls come in between. Steering follows the ledger, which shows when a unit is declared.
 
-use crate::ledger::{days_of, is_leap, Conduct, Date, Ledger, DAY, MAX_PAYLOAD, REINSTATE};
+use crate::frames::MAX_PAYLOAD;
+use crate::ledger::{days_of, is_leap, Conduct, Date, Ledger, DAY, REINSTATE};
 use crate::random_calls::Random;
 use crate::random_days;
 use crate::replay::Script;

@@ -1,9 +1,9 @@
 //! Runs any list of calls from bytes and prints one answer a call.
 //!
-//! A call is a u32 tag, a u32 payload length and the payload, little-endian: 1 load (register), 2 interval (u32 length
-//! of the report buffer, then the interval buffer), 3 declare (u32 point, i32 level), 4 reinstate (u32 point), 5 look
-//! (u32 point).
+//! The calls of a list of [`frames`](crate::frames), by tag: 1 load (register), 2 interval (u32 length of the report buffer,
+//! then the interval buffer), 3 declare (u32 point, i32 level), 4 reinstate (u32 point), 5 look (u32 point).
 
+use crate::frames::{self, word};
 use crate::monitor::{Look, Monitor};
 use crate::program::{interval_number, print_report};
 use crate::refusal::Refusal;
@@ -15,7 +15,6 @@ pub const DECLARE: u32 = 3;
 pub const REINSTATE: u32 = 4;
 pub const LOOK: u32 = 5;
 
-pub const MAX_PAYLOAD: usize = 8_192;
 pub const MAX_REPORT: usize = 4_096;
 
 /// One call of a list.
@@ -28,54 +27,21 @@ pub enum Call<'a> {
     Look { point: u32 },
 }
 
-/// The calls of a list; an error is the place of the tag of a call that cannot be read, and ends the list.
-pub struct Calls<'a> {
-    bytes: &'a [u8],
-    at: usize,
-    ended: bool,
-}
+/// The calls of a list.
+pub type Calls<'a> = frames::Calls<'a, Call<'a>>;
 
 impl<'a> Calls<'a> {
     pub fn new(bytes: &'a [u8]) -> Self {
-        Self { bytes, at: 0, ended: false }
+        Self::of(bytes, read_call)
     }
-}
-
-impl<'a> Iterator for Calls<'a> {
-    type Item = Result<Call<'a>, usize>;
-
-    fn next(&mut self) -> Option<Self::Item> {
-        let rest = self.bytes.get(self.at..).filter(|rest| !rest.is_empty() && !self.ended)?;
-        let place = self.at;
-        match read_call(rest) {
-            Some((call, length)) => {
-                self.at += length;
-                Some(Ok(call))
-            }
-            None => {
-                self.ended = true;
-                Some(Err(place))
-            }
-        }
-    }
-}
-
-fn word(bytes: &[u8]) -> Option<(u32, &[u8])> {
-    let (first, rest) = bytes.split_first_chunk()?;
-    Some((u32::from_le_bytes(*first), rest))
 }
 
 fn only_word(bytes: &[u8]) -> Option<u32> {
     word(bytes).filter(|(_, rest)| rest.is_empty()).map(|(value, _)| value)
 }
 
-/// A call and the bytes it takes.
-fn read_call(bytes: &[u8]) -> Option<(Call<'_>, usize)> {
-    let (tag, rest) = word(bytes)?;
-    let (length, rest) = word(rest)?;
-    let length = usize::try_from(length).ok().filter(|&length| length <= MAX_PAYLOAD)?;
-    let payload = rest.get(..length)?;
-    let call = match tag {
+fn read_call(tag: u32, payload: &[u8]) -> Option<Call<'_>> {
+    Some(match tag {
         LOAD => Call::Load(payload),
         INTERVAL => {
             let (report, buffer) = word(payload)?;
@@ -89,8 +55,7 @@ fn read_call(bytes: &[u8]) -> Option<(Call<'_>, usize)> {
         REINSTATE => Call::Reinstate { point: only_word(payload)? },
         LOOK => Call::Look { point: only_word(payload)? },
         _ => return None,
-    };
-    Some((call, 8 + length))
+    })
 }
 
 /// Runs the list on a monitor without a register.

@@ -7,7 +7,6 @@ use Rattle.calendar.specs.Dates.{isDate}
 use Rattle.calendar.specs.Ordinals.{windowOf, foundOf}
 use Rattle.calendar.specs.declared.Date.{Date}
 use Rattle.calendar.specs.declared.Window.{Window}
-use Rattle.calendar.specs.declared.Found.{Found}
 use Rattle.calendar.specs.declared.Found.the-variants.{At, Nothing}
 
 by-test : (t : Bool) (w : Window) → cond t (At w) Nothing ≡ Nothing → t ≡ false

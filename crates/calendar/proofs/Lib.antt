@@ -3,3 +3,4 @@ pub mod Months
 pub mod Years
 pub mod Places
 pub mod Finds
+pub mod Order

@@ -62,8 +62,12 @@ next-before leap (suc k) l =
     let next : suc k + 1 - 1 ≡ suc k = omega arith in
     rw (next, here)
 
-pub month-most : (leap : Bool) (month : ℕ) → monthLength leap month ≤ 31
+-- no month has fewer days than 28, or more than 31
+abbrev usual : ℕ → Type 0
+usual days = (28 ≤ days) × (days ≤ 31)
+
+pub length-within : (leap : Bool) (month : ℕ) → (28 ≤ monthLength leap month) × (monthLength leap month ≤ 31)
 unfolding monthLength
-month-most leap month =
-    chosen (λ n. n ≤ 31) (eqb month 2) (cond leap 29 28) _ (chosen (λ n. n ≤ 31) leap 29 28 (omega arith) (omega arith))
-    (chosen (λ n. n ≤ 31) (eqb month 4 || (eqb month 6 || (eqb month 9 || eqb month 11))) 30 31 (omega arith) (omega arith))
+length-within leap month =
+    chosen usual (eqb month 2) (cond leap 29 28) _ (chosen usual leap 29 28 (omega arith) (omega arith))
+    (chosen usual (eqb month 4 || (eqb month 6 || (eqb month 9 || eqb month 11))) 30 31 (omega arith) (omega arith))

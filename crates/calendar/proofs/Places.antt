@@ -1,7 +1,7 @@
 -- Where a date stands, and the date three months later. Assumes nothing.
 use mathlib.Core.Path.{_≡_, refl}
 use mathlib.Core.Bool.{Bool, true, false, cond, _&&_}
-use Prim.Native.Nat.{ℕ, _+_, _-_, _≤_, _<_}
+use Prim.Native.Nat.{ℕ, _+_, _-_, _≤_}
 use native.Mathlib.Nat.{min-le-right}
 use native.Mathlib.Omega.{arith}
 use borrow.Author.Tests.{leb-true, ltb-true, ltb-false}
@@ -10,7 +10,7 @@ use Rattle.trace.proofs.Tests.{and-l, and-r}
 use Rattle.calendar.specs.Dates.{isLeap, monthLength, isMonth, isDate, movedTo, threeMonthsLater}
 use Rattle.calendar.specs.Ordinals.{ordinalOf, Placed}
 use Rattle.calendar.specs.declared.Date.{Date}
-use Rattle.calendar.proofs.Months.{month-most}
+use Rattle.calendar.proofs.Months.{length-within}
 
 -- the parts of a test of two bounds
 within : (a b n : ℕ) → (leb a n && leb n b) ≡ true → (a ≤ n) × (n ≤ b)
@@ -44,7 +44,7 @@ module _ (date : Date) (e : isDate date ≡ true) where
         year-most = omega arith;
         month-least = m .0;
         month-most = m .1;
-        day-most = omega (arith, day-within, month-most (isLeap (date .year)) (date .month));
+        day-most = omega (arith, day-within, length-within (isLeap (date .year)) (date .month));
       }
 
 moved-placed : (date : Date) (year month : ℕ) → 2000 ≤ year → year ≤ 2100 → 1 ≤ month → month ≤ 12 → Placed (movedTo date year month)
@@ -55,7 +55,7 @@ moved-placed date year month a b c d =
       year-most = b;
       month-least = c;
       month-most = d;
-      day-most = omega (arith, min-le-right (date .day) (monthLength (isLeap year) month), month-most (isLeap year) month);
+      day-most = omega (arith, min-le-right (date .day) (monthLength (isLeap year) month), length-within (isLeap year) month);
     }
 
 pub later-placed : (date : Date) → isDate date ≡ true → Placed (threeMonthsLater date)

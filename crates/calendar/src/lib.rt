@@ -2,7 +2,7 @@
 // day from the start of 2000 on, so that whoever keeps dates keeps and compares numbers.
 ghost use mathlib.Core.Path.{_≡_};
 ghost use mathlib.Core.Bool.{true};
-ghost use Prim.Native.Nat.{_-_, _≤_, min};
+ghost use Prim.Native.Nat.{_≤_, min};
 ghost use Rattle.calendar.specs.Dates.{isLeap, monthLength, daysBefore, isMonth, isDate, movedTo, threeMonthsLater};
 ghost use Rattle.calendar.specs.Ordinals.{daysOfYears, ordinalOf, windowOf, foundOf, Placed};
 

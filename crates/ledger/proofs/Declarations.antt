@@ -1,8 +1,7 @@
 -- A day at which the rule holds sets the history's own test, and only an accepted reinstatement clears it. Assumes nothing.
 use mathlib.Core.Path.{_≡_, refl, sym, _∙_}
 use mathlib.Core.Logic.{_⊎_, inl, inr}
-use mathlib.Core.Bool.{Bool, true, false, cond, not, _||_, false≢true, or-true}
-use mathlib.Core.List.{List, [], _∷_}
+use mathlib.Core.Bool.{Bool, true, false, cond, not, false≢true, or-true}
 use Prim.Native.Nat.{ℕ}
 use native.Mathlib.Omega.{arith}
 use Rattle.trace.specs.Refusals.{firstOf}
@@ -11,7 +10,7 @@ use Rattle.trace.proofs.Tests.{or-cases}
 use Rattle.calendar.specs.declared.Date.{Date}
 use Rattle.response.specs.declared.Day.{Day}
 use Rattle.ledger.specs.Calls.{Call, enter, reinstate}
-use Rattle.ledger.specs.History.{Entry, entryOf, holds, heldAtSome, History, verdictBy, verdict, effect, extendBy, extend}
+use Rattle.ledger.specs.History.{entryOf, holds, heldAtSome, History, verdictBy, verdict, effect, extendBy, extend}
 use Rattle.ledger.specs.Promises.{Declares, atDay, Reinstates}
 use Rattle.ledger.specs.declared.Verdict.{Verdict}
 use Rattle.ledger.specs.declared.Verdict.the-variants.{Accept, Refuse}

@@ -5,3 +5,4 @@ pub mod Summaries
 pub mod Tracks
 pub mod Declarations
 pub mod Promised
+pub mod Order

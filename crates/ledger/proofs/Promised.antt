@@ -7,7 +7,7 @@ use Rattle.trace.proofs.Lists.{follows, same-outcomes, since-test, test-since}
 use Rattle.ledger.specs.Ledgers.{empty}
 use Rattle.ledger.specs.Calls.{Call, after}
 use Rattle.ledger.specs.History.{heldAtSome, begin, history}
-use Rattle.ledger.specs.Promises.{Declared, Promise, Begins}
+use Rattle.ledger.specs.Promises.{Declared, Begins}
 use Rattle.ledger.proofs.Tracks.{Tracks, tracks-empty, tracks-laws}
 use Rattle.ledger.proofs.Declarations.{declaration-laws}
 

@@ -4,9 +4,8 @@ use mathlib.Core.Bool.{true, false}
 use Prim.Native.Nat.{ℕ, zero, suc}
 use Rattle.trace.specs.Refusals.{firstOf}
 use Rattle.calendar.specs.Dates.{isDate}
-use Rattle.calendar.specs.Ordinals.{ordinalOf, windowOf}
+use Rattle.calendar.specs.Ordinals.{windowOf}
 use Rattle.calendar.specs.declared.Date.{Date}
-use Rattle.calendar.specs.declared.Window.{Window}
 use Rattle.response.specs.declared.Day.{Day}
 use Rattle.ledger.specs.Days.{conductOf}
 use Rattle.ledger.specs.Ledgers.{entered, reinstated, dayRefusal, reinstateRefusal, steppedBy, enterAt, enterOf, reinstateOf, verdictNumber, Answered}

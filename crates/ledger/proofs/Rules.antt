@@ -1,9 +1,9 @@
 -- The rule of 2026-05 in its own words, and as it is worked out from the days: the same. Assumes nothing.
-use mathlib.Core.Path.{_≡_, refl, sym, ap, _∙_}
+use mathlib.Core.Path.{_≡_, refl, ap}
 use mathlib.Core.Logic.{_⊎_, inl, inr}
-use mathlib.Core.Bool.{Bool, true, false, cond, not, _&&_, _||_, false≢true, or-true, or-false}
+use mathlib.Core.Bool.{Bool, true, false, cond, not, _||_, false≢true, or-true, or-false}
 use mathlib.Core.List.{List, [], _∷_, _++_, head-eq-of-cons-eq, tail-eq-of-cons-eq}
-use Prim.Native.Nat.{ℕ, zero, suc, _≤_}
+use Prim.Native.Nat.{ℕ, suc, _≤_}
 use native.Mathlib.Omega.{arith}
 use borrow.Author.Tests.{leb-true, le-leb, not-true}
 use lib.Dec.{leb}
@@ -22,7 +22,7 @@ none-counted true n e = absurd (omega arith)
 none-counted false n e = (refl, e)
 
 not-conformant : (c : Conduct) → isInstance c ≡ true → isConformant c ≡ false
-not-conformant Undispatched e = refl
+not-conformant Undispatched e = absurd (false≢true e)
 not-conformant Conformant e = absurd (false≢true e)
 not-conformant Nonconformant e = refl
 

@@ -8,7 +8,7 @@ use Rattle.calendar.specs.Dates.{threeMonthsLater}
 use Rattle.calendar.specs.Ordinals.{ordinalOf}
 use Rattle.ledger.specs.Days.{isConformant, isInstance}
 use Rattle.ledger.specs.Ledgers.{allConformed, noted, instancesAfter, thirdDeclares}
-use Rattle.ledger.specs.History.{Entry, instanceDay, conformantDay, toFirst, toSecond, holds}
+use Rattle.ledger.specs.History.{Entry, instanceDay, toFirst, toSecond, holds}
 use Rattle.ledger.specs.declared.Conduct.{Conduct}
 use Rattle.ledger.specs.declared.Conduct.the-variants.{Undispatched, Conformant, Nonconformant}
 use Rattle.ledger.specs.declared.Instance.{Instance}

@@ -1,8 +1,8 @@
 -- A ledger beside the history of the calls that led to it: it holds the latest date's ordinal, what the days since reinstatement come to, and
 -- whether the rule held at one of them. One law for each call. Assumes nothing.
 use mathlib.Core.Path.{_≡_, refl, sym, ap, subst, _∙_}
-use mathlib.Core.Bool.{Bool, true, false, cond, not, _&&_, _||_, or-comm}
-use mathlib.Core.List.{List, [], _∷_}
+use mathlib.Core.Bool.{Bool, true, false, not, or-comm}
+use mathlib.Core.List.{[], _∷_}
 use Prim.Native.Nat.{ℕ, zero, suc}
 use borrow.Author.Tests.{lt-leb}
 use lib.Dec.{leb}
@@ -12,7 +12,6 @@ use Rattle.calendar.specs.Dates.{isDate}
 use Rattle.calendar.specs.Ordinals.{ordinalOf, windowOf}
 use Rattle.calendar.specs.declared.Date.{Date}
 use Rattle.calendar.proofs.Places.{ordinal-least}
-use Rattle.response.specs.declared.Day.{Day}
 use Rattle.ledger.specs.Days.{conductOf}
 use Rattle.ledger.specs.Ledgers.{empty, entered, reinstated, dayRefusal, reinstateRefusal, steppedBy, enterOf, reinstateOf}
 use Rattle.ledger.specs.Calls.{Call, enter, reinstate, stepped, next, answer}
@@ -21,7 +20,7 @@ use Rattle.ledger.specs.declared.Ledger.{Ledger}
 use Rattle.ledger.specs.declared.Stepped.{Stepped}
 use Rattle.ledger.proofs.Summaries.{summaryOf, holds-summary}
 
-abbrev latestOf : Latest → ℕ
+abbrev pub latestOf : Latest → ℕ
 latestOf none = 0
 latestOf (on date) = ordinalOf date
 

@@ -1,6 +1,5 @@
 -- What a day is to the ledger (02, 2026-05; 002, section 4.1 (b)).
 use mathlib.Core.Bool.{Bool, true, false, cond, _||_}
-use Prim.Native.Nat.{ℕ}
 use lib.Dec.{eqb, ltb}
 use Rattle.response.specs.declared.Day.{Day}
 use Rattle.response.specs.declared.Flag.{Flag}

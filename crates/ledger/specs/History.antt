@@ -15,7 +15,6 @@ use Rattle.response.specs.declared.Day.{Day}
 use Rattle.ledger.specs.Days.{conductOf, isConformant, isInstance}
 use Rattle.ledger.specs.Calls.{Call, enter, reinstate}
 use Rattle.ledger.specs.declared.Conduct.{Conduct}
-use Rattle.ledger.specs.declared.Conduct.the-variants.{Undispatched, Conformant, Nonconformant}
 use Rattle.ledger.specs.declared.Verdict.{Verdict}
 use Rattle.ledger.specs.declared.Verdict.the-variants.{Accept, Refuse}
 

@@ -2,3 +2,4 @@
 pub mod Lines
 pub mod Turns
 pub mod Readings
+pub mod Told

@@ -10,9 +10,8 @@ use Rattle.response.specs.Answers.{fileAnswer}
 use Rattle.response.specs.declared.Answer.{Answer}
 use Rattle.response.specs.declared.Answer.the-variants.{Assessed, Refused}
 use Rattle.response.specs.declared.Day.{Day}
-use Rattle.ledger.specs.Calls.{Call, enter, reinstate, stepped}
+use Rattle.ledger.specs.Calls.{enter, reinstate, stepped}
 use Rattle.ledger.specs.declared.Ledger.{Ledger}
-use Rattle.ledger.specs.declared.Stepped.{Stepped}
 use Rattle.ledger_script.specs.Items.{Item, unreadable, days, reinstates, itemOf}
 use Rattle.ledger_script.specs.Texts.{refusedText, dayText, reinstateText, errorText}
 use Rattle.ledger_script.specs.declared.Turn.{Turn}

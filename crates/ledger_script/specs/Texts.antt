@@ -6,7 +6,6 @@ use Rattle.text.specs.Numbers.{ascii, decimalOf, wholeOf}
 use Rattle.text.specs.Lines.{line, numberedOf}
 use Rattle.response.specs.declared.Day.{Day}
 use Rattle.response_text.specs.Texts.{flagText}
-use Rattle.ledger.specs.declared.Stepped.{Stepped}
 use Rattle.ledger.specs.declared.Verdict.{Verdict}
 use Rattle.ledger.specs.declared.Verdict.the-variants.{Accept, Refuse}
 

@@ -9,7 +9,6 @@ ghost use Rattle.ledger_script.specs.Items.{dateOf, dayItem, payloadItem
 ghost use Rattle.ledger_script.specs.Steps.{unread, madeDay, madeFile, madeReinstate, madeBy, stepOf, Steps};
 use calendar::Date;
 use ledger::Ledger;
-use ledger::Verdict;
 use response::Answer;
 use response::Day;
 

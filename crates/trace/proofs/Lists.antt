@@ -5,6 +5,19 @@ use mathlib.Core.Bool.{Bool, true, false}
 use mathlib.Core.List.{List, [], _∷_, _++_, nil≢cons, head-eq-of-cons-eq, tail-eq-of-cons-eq}
 use Rattle.trace.specs.Lists.{fold, outcomes, Alike, none, both, left, right, sights, Since}
 
+-- ---- one list after another
+
+pub fold-append : {S C : Type 0} (next : S → C → S) (s : S) (xs ys : List C) → fold next s (xs ++ ys) ≡ fold next (fold next s xs) ys
+fold-append next s [] ys = refl
+fold-append next s (x ∷ xs) ys = fold-append next (next s x) xs ys
+
+-- ---- what each call keeps, every list does
+
+pub holds-after : {S C : Type 0} {next : S → C → S} (P : S → Type 0) → ((s : S) (c : C) → P s → P (next s c)) → (cs : List C) (s : S) → P s
+    → P (fold next s cs)
+holds-after P keeps [] s p = p
+holds-after {next = next} P keeps (c ∷ cs) s p = holds-after P keeps cs (next s c) (keeps s c p)
+
 -- ---- one machine over two lists that are alike, its two states held together by R
 
 pub record Parallel {S C O W : Type 0} (next : S → C → S) (answer : S → C → O) (view : C → O → List W)

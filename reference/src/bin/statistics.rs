@@ -1,6 +1,7 @@
 //! `statistics FIRST LAST`: what the random lists of these seeds reach, what the random passes of seeds 1 to 8 reach, what the
 //! random days of seeds 1 to 2000 reach, and what the random ledgers of seeds 1 to 1000 reach; fails when something stays rare.
 
+use conformance::frames::{HEAD, MAX_PAYLOAD};
 use conformance::ledger::{self, Conduct, Date, Ledger};
 use conformance::line::{Kind, Line, Quality, LINE};
 use conformance::marks::{assess_aggregate, Member, Pass};
@@ -614,21 +615,21 @@ fn count_unread(counts: &mut Counts, list: &[u8], place: usize) {
     let rest = &list[place..];
     let word = |at: usize| rest[at..at + 4].iter().rev().fold(0, |word, &byte| 256 * word + usize::from(byte));
     let mut add = |what: &str| counts.add(format!("ledgers: script error, {what}"));
-    if rest.len() < ledger::HEAD {
+    if rest.len() < HEAD {
         add("head cut short");
         return;
     }
     let (tag, length) = (word(0), word(4));
     add(match (tag, length) {
-        _ if length > ledger::MAX_PAYLOAD => "payload over 8192 bytes",
-        _ if length > rest.len() - ledger::HEAD => "payload cut short",
+        _ if length > MAX_PAYLOAD => "payload over 8192 bytes",
+        _ if length > rest.len() - HEAD => "payload cut short",
         (1, _) => "day without a whole date",
         (2, _) => "reinstatement with a payload",
         _ => "unknown tag",
     });
     if place == 0 {
         add("in the first call");
-    } else if rest.len() > ledger::HEAD + length {
+    } else if rest.len() > HEAD + length {
         add("calls before it and after it");
     }
 }
@@ -839,7 +840,7 @@ impl Watch {
                 meet(date.exists() && !not_later, "otherwise accepted");
                 meet(file.is_empty(), "no bytes after the date");
                 meet((1..response::EARLIER).contains(&file.len()), "fewer than 4 bytes after the date");
-                meet(ledger::DATE + file.len() == ledger::MAX_PAYLOAD, "payload of 8192 bytes");
+                meet(ledger::DATE + file.len() == MAX_PAYLOAD, "payload of 8192 bytes");
                 return;
             }
             Refusal::NoSuchDate => {
