@@ -20,10 +20,12 @@ pub data Earlier (a b : Date) : Type 0 where
   byDay : a .year ≡ b .year → a .month ≡ b .month → a .day < b .day → Earlier a b
 
 -- a date of 2000 to 2100: one that there is, or three months after one
+abbrev InMonth : Date → Type 0
+InMonth date = (1 ≤ date .day) × (date .day ≤ monthLength (isLeap (date .year)) (date .month))
+
 pub record Dated (date : Date) : Type 0 where
   pub placed : Placed date
-  pub least : 1 ≤ date .day
-  pub last : date .day ≤ monthLength (isLeap (date .year)) (date .month)
+  pub within : InMonth date
 
 -- ---- sums that rise
 
@@ -54,7 +56,7 @@ module _ (date : Date) (d : Dated date) where
   month-end =
       let next = next-before leap (date .month) (d .placed .month-least) in
       let same : date .month + 1 - 1 ≡ date .month = omega arith in
-      omega (arith, rw same at next, d .last)
+      omega (arith, rw same at next, d .within .1)
 
   -- no later than its year's
   year-end : ordinalOf date ≤ daysOfYears (suc (date .year - 2000))
@@ -71,11 +73,11 @@ module _ (a b : Date) (p : Dated a) (q : Dated b) where
   unfolding ordinalOf
   earlier-less (byYear y) =
       let most : daysOfYears (suc (a .year - 2000)) ≤ daysOfYears (b .year - 2000) = years-rise _ _ (omega (arith, p .placed .year-least)) in
-      omega (arith, year-end a p, most, q .least)
+      omega (arith, year-end a p, most, q .within .0)
   earlier-less (byMonth y m) =
       let most : daysOfMonths (isLeap (a .year)) (a .month) ≤ daysBefore (isLeap (b .year)) (b .month) =
       rw y (months-rise (isLeap (b .year)) (a .month) (b .month - 1) (omega arith)) in
-      rw y (omega (arith, rw y at (month-end a p), rw y at most, q .least))
+      rw y (omega (arith, rw y at (month-end a p), rw y at most, q .within .0))
   earlier-less (byDay y m d) = rw (y, m) (omega arith)
 
 three-ways : (m n : ℕ) → (m < n) ⊎ ((m ≡ n) ⊎ (n < m))
@@ -119,26 +121,22 @@ module _ (a b : Date) (p : Dated a) (q : Dated b) where
 -- ---- of which dates that holds
 
 pub date-dated : (date : Date) → isDate date ≡ true → Dated date
-date-dated date e = let d = day-within date e in record { placed = date-placed date e; least = d .0; last = d .1 }
+date-dated date e = record { placed = date-placed date e; within = day-within date e }
 
-moved-day : (date : Date) (year month : ℕ) → 1 ≤ date .day
-    → (1 ≤ movedTo date year month .day) × (movedTo date year month .day ≤ monthLength (isLeap (movedTo date year month .year)) (movedTo date year month .month))
+moved-within : (date : Date) (year month : ℕ) → 1 ≤ date .day → InMonth (movedTo date year month)
 unfolding movedTo
-moved-day date year month l =
-    let n = monthLength (isLeap year) month in
-    (le-min l (omega (arith, length-within (isLeap year) month)), min-le-right (date .day) n)
+moved-within date year month l =
+    let last = monthLength (isLeap year) month in
+    (le-min l (omega (arith, length-within (isLeap year) month)), min-le-right (date .day) last)
 
 pub later-dated : (date : Date) → isDate date ≡ true → Dated (threeMonthsLater date)
 unfolding threeMonthsLater
 later-dated date e =
+    let l = day-within date e .0 in
     record {
       placed = later-placed date e;
-      least = chosen (λ (d : Date). 1 ≤ d .day) (ltb (date .month) 10) _ _ (moved-day date _ _ l .0) (moved-day date _ _ l .0);
-      last = chosen (λ (d : Date). d .day ≤ monthLength (isLeap (d .year)) (d .month)) (ltb (date .month) 10) _ _ (moved-day date _ _ l .1) (moved-day date _ _ l .1);
+      within = chosen InMonth (ltb (date .month) 10) _ _ (moved-within date _ _ l) (moved-within date _ _ l);
     }
-  where
-    l : 1 ≤ date .day
-    l = day-within date e .0
 
 -- "no later than three calendar months after", also where that is after the end of 2099
 pub within-three-months : (a b : Date) → isDate a ≡ true → isDate b ≡ true

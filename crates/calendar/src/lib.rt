@@ -25,8 +25,9 @@ pub enum Found {
     Nothing,
 }
 
-// The days before each month and before the end of the year: of a common year, then of a leap year.
+// The days before each month, and before the end of the year.
 const DAYS_BEFORE: [u32; 26] = [
+    // A common year.
     0,
     31,
     59,
@@ -40,6 +41,7 @@ const DAYS_BEFORE: [u32; 26] = [
     304,
     334,
     365,
+    // A leap year.
     0,
     31,
     60,

@@ -19,7 +19,7 @@ pub struct Instance {
     pub conformed: bool,
 }
 
-// The latest instances since reinstatement, the earlier first. A third one is held to the first of two, and then takes part in their place.
+// The latest instances since reinstatement, the earlier first. A third is held to the earlier of two, which is then needed no more.
 pub enum Instances {
     Zero,
     One(Instance),
