@@ -533,3 +533,15 @@ fn random_ledgers_by_the_paper() {
         assert_eq!(text(&bytes), by_the_paper(&calendar, &bytes), "seed {seed}");
     }
 }
+
+#[test]
+fn program_on_the_data_folders() {
+    let root = std::path::Path::new(env!("CARGO_MANIFEST_DIR")).join("../tests/ledgers");
+    let mut folders: Vec<_> = std::fs::read_dir(root).unwrap().map(|entry| entry.unwrap().path()).collect();
+    folders.sort();
+    assert!(folders.len() >= 6);
+    for folder in folders {
+        let read = |name: &str| std::fs::read(folder.join(name)).unwrap_or_default();
+        assert_eq!(text(&read("ledger.bin")).into_bytes(), read("expected"), "{}", folder.display());
+    }
+}

@@ -6,15 +6,10 @@ use Prim.Native.Nat.{ℕ, _+_, _-_, _≤_, _<_}
 use native.Mathlib.Omega.{arith}
 use borrow.Author.Tests.{leb-true, le-leb, lt-leb, eq-eqb, ne-eqb, eqb-true, eqb-false}
 use lib.Dec.{leb, eqb}
-use lib.ListN.{length, take, drop, length-drop}
-use lib.Seq.{take-all}
+use lib.ListN.{length}
 use Rattle.wire.specs.Fields.{wordAt}
 use Rattle.trace.proofs.Tests.{and-l}
 use Rattle.frames.specs.Frames.{wantedBy, isFrame}
-
--- a part that goes to the end
-pub behind : (k : ℕ) (bytes : List ℕ) → take (length bytes - k) (drop k bytes) ≡ drop k bytes
-behind k bytes = take-all (length bytes - k) (drop k bytes) (rw length-drop (omega arith))
 
 -- ---- the first 8 bytes
 

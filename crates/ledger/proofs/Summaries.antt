@@ -73,7 +73,7 @@ module _ (third : Entry) where
       go : (c : Conduct) → ((m : Bool) → toFirst third m days ≡ latestSays on m (summaryOf days))
           → cond (isInstance c) (leb on (endOf e) || not met) (toFirst third (met || isConformant c) days)
           ≡ latestSays on met (instancesAfter c (endOf e) (summaryOf days))
-      go Undispatched says = rw (or-false met) (says met)
+      go Undispatched says = ap (λ (m : Bool). toFirst third m days) (or-false met) ∙ says met
       go Conformant says = rw (or-true met, latest-conformed on met (summaryOf days)) (says true)
       go Nonconformant says = rw (latest-noted on met (summaryOf days) (endOf e))
 
@@ -85,7 +85,7 @@ module _ (third : Entry) where
       go : (c : Conduct) → ((m : Bool) → toSecond third m days ≡ earlierSays on m (summaryOf days))
           → cond (isInstance c) (toFirst third met days) (toSecond third (met || isConformant c) days)
           ≡ earlierSays on met (instancesAfter c (endOf e) (summaryOf days))
-      go Undispatched says = rw (or-false met) (says met)
+      go Undispatched says = ap (λ (m : Bool). toSecond third m days) (or-false met) ∙ says met
       go Conformant says = rw (or-true met, earlier-conformed on met (summaryOf days)) (says true)
       go Nonconformant says = rw (earlier-noted on met (summaryOf days) _) (first-says days met)
 

@@ -3,12 +3,11 @@ use mathlib.Core.Path.{_≡_, refl}
 use mathlib.Core.Bool.{true, false}
 use mathlib.Core.List.{List}
 use Prim.Native.Nat.{ℕ, zero, suc, _-_, _≤_, _<_}
-use native.Mathlib.Nat.{le-refl}
 use borrow.Author.Tests.{lt-ltb, le-ltb}
-use lib.ListN.{length, take, drop, length-drop}
-use lib.Seq.{take-all}
+use lib.ListN.{length, take, drop}
 use Rattle.trace.specs.Refusals.{firstOf}
 use Rattle.wire.specs.Fields.{wordAt}
+use Rattle.wire.proofs.Laws.{behind}
 use Rattle.response.specs.Days.{dayOf}
 use Rattle.response.specs.Answers.{isWhole, dayBounded, dayRefusal, answerBy, answerOf, answerNumber, fileRefusal, fileAnswer, Answers}
 use Rattle.response.specs.declared.Answer.{Answer}
@@ -48,12 +47,8 @@ module _ (bytes : List ℕ) where
   unfolding fileAnswer fileRefusal answerBy
   file-short l = answered (fileRefusal bytes) (dayOf (wordAt bytes 0) (drop 4 bytes)) (Refused 31) (rw (lt-ltb (length bytes) 4 l))
 
-  -- the records, as the code lends them
-  lent : take (length bytes - 4) (drop 4 bytes) ≡ drop 4 bytes
-  lent = take-all (length bytes - 4) (drop 4 bytes) (rw length-drop (le-refl (length bytes - 4)))
-
   pub file-day : 4 ≤ length bytes → (earlier : ℕ) → earlier ≡ wordAt bytes 0 → (r : Answer)
       → let records = take (length bytes - 4) (drop 4 bytes) in Answers (answerOf earlier records) (dayRefusal earlier records) r
       → Answers (fileAnswer bytes) (fileRefusal bytes) r
   unfolding fileAnswer fileRefusal answerOf
-  file-day l earlier e r a = rw (le-ltb (length bytes) 4 l) (rw (e, lent) at a)
+  file-day l earlier e r a = rw (le-ltb (length bytes) 4 l) (rw (e, behind 4 bytes) at a)

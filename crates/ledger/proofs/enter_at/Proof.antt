@@ -6,9 +6,12 @@ use Rattle.ledger.specs.Ledgers.{steppedBy}
 use Rattle.ledger.proofs.enter_at.Statement.{statement}
 use Rattle.ledger.proofs.enter_at.Tie as tie
 
+abbrev start : tie.Then1 → tie.Start
+start c = c .before .before .before
+
 returns : tie.Need-returns
 unfolding steppedBy firstOf
-returns c = rw (le-leb _ _ (c .if1 .taken))
+returns c = let a = start c .args in rw (le-leb (a .window .start) (a .ledger .latest) (c .if1 .taken))
 
 conduct-of-requires : tie.Need-conduct-of-requires
 conduct-of-requires c κs = search needs

@@ -1,6 +1,6 @@
 -- `ledger_script::day_call` meets its contract. Assumes nothing.
 use borrow.Author.Needs.{needs}
-use Rattle.frames.proofs.Calls.{behind}
+use Rattle.wire.proofs.Laws.{behind}
 use Rattle.ledger_script.proofs.Readings.{day-short, day-read}
 use Rattle.ledger_script.proofs.day_call.Statement.{statement}
 use Rattle.ledger_script.proofs.day_call.Tie as tie

@@ -6,7 +6,7 @@ use Prim.Native.Nat.{ℕ}
 use lib.ListN.{length, take, drop, replicate, length-replicate}
 use lib.Seq.{length-take-le}
 use Rattle.wire.specs.Fields.{wordAt}
-use Rattle.frames.proofs.Calls.{behind}
+use Rattle.wire.proofs.Laws.{behind}
 use Rattle.script.proofs.Readings.{interval-short, interval-long, interval-read}
 use Rattle.script.proofs.Answers.{same-interval}
 use Rattle.script.proofs.interval_call.Statement.{statement}

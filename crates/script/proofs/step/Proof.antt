@@ -6,7 +6,8 @@ use mathlib.Core.Bool.{true}
 use Prim.Native.Nat.{_≤_}
 use lib.ListN.{length}
 use Rattle.frames.specs.Frames.{isFrame}
-use Rattle.frames.proofs.Calls.{behind, frame-long}
+use Rattle.wire.proofs.Laws.{behind}
+use Rattle.frames.proofs.Calls.{frame-long}
 use Rattle.script.proofs.Readings.{item-frame, item-unread, step-item, step-end}
 use Rattle.script.proofs.step.Statement.{statement}
 use Rattle.script.proofs.step.Tie as tie
