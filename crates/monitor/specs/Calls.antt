@@ -6,9 +6,9 @@ use lib.IntN.{ℤ}
 use lib.ListN.{length}
 use Rattle.trace.specs.Lists.{fold, outcomes}
 use Rattle.points.specs.declared.Point.{Point}
-use Rattle.monitor.specs.Intervals.{decide, intervalOf, reportOf}
-use Rattle.monitor.specs.Operators.{Operator, declare, reinstate, look, operatedOf, lookedOf}
-use Rattle.monitor.specs.declared.Monitor.{Monitor}
+use Rattle.intervals.specs.Intervals.{decide, intervalOf, reportOf}
+use Rattle.intervals.specs.declared.Monitor.{Monitor}
+use Rattle.operators.specs.Operators.{Operator, declare, reinstate, look, operatedOf, lookedOf}
 
 -- an interval with the report buffer as it stood, or an operator call that names a point
 pub data Call : Type 0 where

@@ -13,16 +13,16 @@ use Rattle.register.specs.declared.Answer.the-variants.{Accepted}
 use Rattle.register.specs.declared.Plant.{Plant}
 use Rattle.marks.specs.Levels.{isDispatchable}
 use Rattle.marks.specs.declared.Mark.the-variants.{Small, Large}
-use Rattle.monitor.specs.Plants.{total, place, named, isUnidirectionalAt, Group, unitIn, pointIn}
-use Rattle.monitor.specs.Assessments.{headerOf, modeOf}
-use Rattle.monitor.specs.Monitors.{pointAt}
-use Rattle.monitor.specs.Intervals.{loadOf}
-use Rattle.monitor.specs.Operators.{Operator, declare, reinstate, look}
+use Rattle.intervals.specs.Plants.{total, place, named, isUnidirectionalAt, Group, unitIn, pointIn}
+use Rattle.intervals.specs.Assessments.{headerOf, modeOf}
+use Rattle.intervals.specs.Monitors.{pointAt}
+use Rattle.intervals.specs.declared.Monitor.{Monitor}
+use Rattle.intervals.specs.declared.Verdict.the-variants.{Accept}
+use Rattle.operators.specs.Operators.{Operator, declare, reinstate, look}
+use Rattle.monitor.specs.Loading.{loadOf}
 use Rattle.monitor.specs.Calls.{Call, interval, operate, Outcome, refusal, reported, done, looked, answer, after, run}
 use Rattle.monitor.specs.History.{History, begin, isDeclared, assessmentThen, verdict, extend, history, foretold}
-use Rattle.monitor.specs.declared.Monitor.{Monitor}
 use Rattle.monitor.specs.declared.Loaded.{Loaded}
-use Rattle.monitor.specs.declared.Verdict.the-variants.{Accept}
 
 -- ==== The first half: "a group's fate is its own"
 

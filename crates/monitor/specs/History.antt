@@ -14,13 +14,13 @@ use Rattle.marks.specs.declared.Assessment.{Assessment}
 use Rattle.points.specs.Points.{declaredAt, reaches, statusOf, smallAfter, largeAfter, declares}
 use Rattle.points.specs.Records.{recordOf}
 use Rattle.points.specs.declared.Point.{Point}
-use Rattle.monitor.specs.Plants.{total, place, named, isUnidirectionalAt}
-use Rattle.monitor.specs.Assessments.{headerOf, numberOf, isAutomatic, ruleOf, lineAt, isFresh, assessmentAt}
-use Rattle.monitor.specs.Intervals.{decide, judgeInterval}
-use Rattle.monitor.specs.Operators.{Operator, declare, reinstate, look, allowedLevel}
+use Rattle.intervals.specs.Plants.{total, place, named, isUnidirectionalAt}
+use Rattle.intervals.specs.Assessments.{headerOf, numberOf, isAutomatic, ruleOf, lineAt, isFresh, assessmentAt}
+use Rattle.intervals.specs.Intervals.{decide, judgeInterval}
+use Rattle.intervals.specs.declared.Verdict.{Verdict}
+use Rattle.intervals.specs.declared.Verdict.the-variants.{Accept, Refuse}
+use Rattle.operators.specs.Operators.{Operator, declare, reinstate, look, allowedLevel}
 use Rattle.monitor.specs.Calls.{Call, interval, operate, Outcome, refusal, reported, reply}
-use Rattle.monitor.specs.declared.Verdict.{Verdict}
-use Rattle.monitor.specs.declared.Verdict.the-variants.{Accept, Refuse}
 
 -- whether a declaration stands, and at which level
 pub data Standing : Type 0 where

@@ -34,12 +34,12 @@ use Rattle.aggregates.proofs.Small.{wider, member-more, no-sums-small, aggregat
 use Rattle.marks.proofs.Thresholds.{small-bounded}
 use Rattle.points.specs.declared.Point.{Point}
 use Rattle.points.proofs.Levels.{level-after}
-use Rattle.monitor.specs.Plants.{total, place, placesOf}
-use Rattle.monitor.specs.Assessments.{headerOf, isAutomatic, ruleOf, sightAt, assessmentAt}
-use Rattle.monitor.specs.Monitors.{keptAt, pointAt, soundOf}
-use Rattle.monitor.specs.Intervals.{freshIn, assessmentIn, pointAfter}
-use Rattle.monitor.specs.declared.Monitor.{Monitor}
-use Rattle.monitor.proofs.States.{next-in, head-in, sight-small}
+use Rattle.intervals.specs.Plants.{total, place, placesOf}
+use Rattle.intervals.specs.Assessments.{headerOf, isAutomatic, ruleOf, sightAt, assessmentAt}
+use Rattle.intervals.specs.Monitors.{keptAt, pointAt, soundOf}
+use Rattle.intervals.specs.Intervals.{freshIn, assessmentIn, pointAfter}
+use Rattle.intervals.specs.declared.Monitor.{Monitor}
+use Rattle.intervals.proofs.States.{next-in, head-in, sight-small}
 
 -- the four bytes that the report has for each of these are enough
 pub record Held (a : Assessment) (p : Point) : Type 0 where

@@ -20,14 +20,14 @@ use Rattle.marks.specs.declared.Assessment.{Assessment}
 use Rattle.points.specs.Records.{recordOf}
 use Rattle.points.specs.declared.Point.{Point}
 use Rattle.points.proofs.Lengths16.{length-record}
-use Rattle.monitor.specs.Plants.{total}
-use Rattle.monitor.specs.Assessments.{headerOf, numberOf as intervalNumber}
-use Rattle.monitor.specs.Monitors.{pointAt}
-use Rattle.monitor.specs.Intervals.{verdictNumber, intervalVerdict, intervalOf, assessmentIn, pointAfter, recordAfter, reportOf}
-use Rattle.monitor.specs.declared.Monitor.{Monitor}
-use Rattle.monitor.specs.declared.Verdict.the-variants.{Accept}
-use Rattle.monitor.proofs.Refusals.{interval-told}
-use Rattle.monitor.proofs.Verdicts.{ready}
+use Rattle.intervals.specs.Plants.{total}
+use Rattle.intervals.specs.Assessments.{headerOf, numberOf as intervalNumber}
+use Rattle.intervals.specs.Monitors.{pointAt}
+use Rattle.intervals.specs.Intervals.{verdictNumber, intervalVerdict, intervalOf, assessmentIn, pointAfter, recordAfter, reportOf}
+use Rattle.intervals.specs.declared.Monitor.{Monitor}
+use Rattle.intervals.specs.declared.Verdict.the-variants.{Accept}
+use Rattle.intervals.proofs.Refusals.{interval-told}
+use Rattle.intervals.proofs.Verdicts.{ready}
 use Rattle.text.specs.Numbers.{decimalOf, wholeOf}
 use Rattle.text.specs.Lines.{line, lineOf, lineAt, linesOf}
 use Rattle.program.specs.Steps.{blank, takenFrom, stepOf}

@@ -3,13 +3,13 @@ use mathlib.Core.Path.{_≡_, refl}
 use mathlib.Core.List.{List, [], _∷_}
 use Prim.Native.Nat.{ℕ}
 use lib.ListN.{length}
-use Rattle.monitor.specs.Assessments.{headerOf, numberOf}
-use Rattle.monitor.specs.Intervals.{decide, verdictNumber, intervalOf, reportOf}
+use Rattle.intervals.specs.Assessments.{headerOf, numberOf}
+use Rattle.intervals.specs.Intervals.{decide, verdictNumber, intervalOf, reportOf}
+use Rattle.intervals.specs.declared.Monitor.{Monitor}
+use Rattle.intervals.specs.declared.Verdict.{Verdict}
+use Rattle.intervals.specs.declared.Verdict.the-variants.{Accept, Refuse}
+use Rattle.intervals.proofs.Refusals.{interval-told}
 use Rattle.monitor.specs.Calls.{interval, refusal, reported, next, answer}
-use Rattle.monitor.specs.declared.Monitor.{Monitor}
-use Rattle.monitor.specs.declared.Verdict.{Verdict}
-use Rattle.monitor.specs.declared.Verdict.the-variants.{Accept, Refuse}
-use Rattle.monitor.proofs.Refusals.{interval-told}
 use Rattle.text.specs.Lines.{linesOf}
 use Rattle.program.specs.Steps.{answered, blank, takenFrom, stepOf}
 use Rattle.program.specs.Outcomes.{shownBy}

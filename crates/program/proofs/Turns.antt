@@ -10,17 +10,18 @@ use lib.Dec.{eqb}
 use lib.ListN.{length, length-replicate}
 use Rattle.wire.specs.Fields.{putAt}
 use Rattle.register.specs.Registers.{answerNumber}
-use Rattle.monitor.specs.Plants.{total}
-use Rattle.monitor.specs.Assessments.{headerOf, numberOf}
-use Rattle.monitor.specs.Monitors.{soundOf, unloaded}
-use Rattle.monitor.specs.Intervals.{decide, verdictNumber, loadOf, judgeInterval, intervalVerdict, intervalOf, monitorAfter, reportAfter, reportOf}
-use Rattle.monitor.specs.declared.Monitor.{Monitor}
+use Rattle.intervals.specs.Plants.{total}
+use Rattle.intervals.specs.Assessments.{headerOf, numberOf}
+use Rattle.intervals.specs.Monitors.{soundOf, unloaded}
+use Rattle.intervals.specs.Intervals.{decide, verdictNumber, judgeInterval, intervalVerdict, intervalOf, monitorAfter, reportAfter, reportOf}
+use Rattle.intervals.specs.declared.Monitor.{Monitor}
+use Rattle.intervals.specs.declared.Stepped.{Stepped}
+use Rattle.intervals.specs.declared.Verdict.{Verdict}
+use Rattle.intervals.specs.declared.Verdict.the-variants.{Accept, Refuse}
+use Rattle.intervals.proofs.Refusals.{interval-told}
+use Rattle.intervals.proofs.States.{units-small, aggregates-small}
+use Rattle.monitor.specs.Loading.{loadOf}
 use Rattle.monitor.specs.declared.Loaded.{Loaded}
-use Rattle.monitor.specs.declared.Stepped.{Stepped}
-use Rattle.monitor.specs.declared.Verdict.{Verdict}
-use Rattle.monitor.specs.declared.Verdict.the-variants.{Accept, Refuse}
-use Rattle.monitor.proofs.Refusals.{interval-told}
-use Rattle.monitor.proofs.States.{units-small, aggregates-small}
 use Rattle.text.specs.Lines.{linesOf, refusedOf}
 use Rattle.text.specs.Puts.{Put}
 use Rattle.text.proofs.Puts.{nothing}

@@ -3,9 +3,9 @@
 use mathlib.Core.Bool.{Bool, true, false}
 use mathlib.Core.List.{List, []}
 use Prim.Native.Nat.{ℕ}
-use Rattle.monitor.specs.Assessments.{headerOf, numberOf}
+use Rattle.intervals.specs.Assessments.{headerOf, numberOf}
+use Rattle.intervals.specs.declared.Monitor.{Monitor}
 use Rattle.monitor.specs.Calls.{Outcome, refusal, reported, done, looked}
-use Rattle.monitor.specs.declared.Monitor.{Monitor}
 use Rattle.text.specs.Lines.{linesOf, refusedOf}
 use Rattle.program.specs.Steps.{Outcome as Step}
 

@@ -7,11 +7,12 @@ use Prim.Native.Nat.{ℕ, _+_, _*_, min}
 use lib.Dec.{eqb}
 use lib.ListN.{length, drop, replicate}
 use Rattle.register.specs.Registers.{answerNumber}
-use Rattle.monitor.specs.Plants.{total}
-use Rattle.monitor.specs.Assessments.{headerOf, numberOf}
-use Rattle.monitor.specs.Monitors.{unloaded}
-use Rattle.monitor.specs.Intervals.{verdictNumber, loadOf, intervalOf, reportOf}
-use Rattle.monitor.specs.declared.Monitor.{Monitor}
+use Rattle.intervals.specs.Plants.{total}
+use Rattle.intervals.specs.Assessments.{headerOf, numberOf}
+use Rattle.intervals.specs.Monitors.{unloaded}
+use Rattle.intervals.specs.Intervals.{verdictNumber, intervalOf, reportOf}
+use Rattle.intervals.specs.declared.Monitor.{Monitor}
+use Rattle.monitor.specs.Loading.{loadOf}
 use Rattle.text.specs.Lines.{linesOf, refusedOf}
 use Rattle.program.specs.declared.Turn.{Turn}
 

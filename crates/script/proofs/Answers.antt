@@ -8,19 +8,20 @@ use borrow.Author.Tests.{eq-eqb, ne-eqb}
 use lib.IntN.{ℤ}
 use lib.ListN.{length}
 use Rattle.register.specs.Registers.{answerNumber, answerVisits}
-use Rattle.monitor.specs.Assessments.{headerOf, numberOf}
-use Rattle.monitor.specs.Intervals.{decide, verdictNumber, loadOf, intervalVerdict, intervalOf, monitorAfter, reportAfter, reportOf}
-use Rattle.monitor.specs.Operators.{Operator, declare, reinstate, look, operatedOf, lookedOf}
+use Rattle.intervals.specs.Assessments.{headerOf, numberOf}
+use Rattle.intervals.specs.Intervals.{decide, verdictNumber, intervalVerdict, intervalOf, monitorAfter, reportAfter, reportOf}
+use Rattle.intervals.specs.declared.Monitor.{Monitor}
+use Rattle.intervals.specs.declared.Stepped.{Stepped}
+use Rattle.intervals.specs.declared.Verdict.{Verdict}
+use Rattle.intervals.specs.declared.Verdict.the-variants.{Accept, Refuse}
+use Rattle.intervals.proofs.Refusals.{interval-told}
+use Rattle.intervals.proofs.States.{units-small, aggregates-small}
+use Rattle.intervals.proofs.Verdicts.{ready, report-size}
+use Rattle.operators.specs.Operators.{Operator, declare, reinstate, look, operatedOf, lookedOf}
+use Rattle.operators.specs.declared.Looked.{Looked}
+use Rattle.monitor.specs.Loading.{loadOf}
 use Rattle.monitor.specs.Calls.{interval, operate, next}
-use Rattle.monitor.specs.declared.Monitor.{Monitor}
 use Rattle.monitor.specs.declared.Loaded.{Loaded}
-use Rattle.monitor.specs.declared.Stepped.{Stepped}
-use Rattle.monitor.specs.declared.Looked.{Looked}
-use Rattle.monitor.specs.declared.Verdict.{Verdict}
-use Rattle.monitor.specs.declared.Verdict.the-variants.{Accept, Refuse}
-use Rattle.monitor.proofs.Refusals.{interval-told}
-use Rattle.monitor.proofs.States.{units-small, aggregates-small}
-use Rattle.monitor.proofs.Verdicts.{ready, report-size}
 use Rattle.text.specs.Numbers.{ascii}
 use Rattle.text.specs.Lines.{line, numberedOf, standingOf}
 use Rattle.text.specs.Puts.{Put}

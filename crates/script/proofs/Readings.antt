@@ -8,9 +8,9 @@ use borrow.Author.Tests.{le-leb, lt-leb, eq-eqb, ne-eqb}
 use lib.ListN.{length, drop, replicate}
 use Rattle.wire.specs.Fields.{wordAt, wholeAt}
 use Rattle.frames.specs.Frames.{isFrame}
-use Rattle.monitor.specs.Operators.{declare, reinstate, look}
+use Rattle.intervals.specs.declared.Monitor.{Monitor}
+use Rattle.operators.specs.Operators.{declare, reinstate, look}
 use Rattle.monitor.specs.Calls.{interval, operate}
-use Rattle.monitor.specs.declared.Monitor.{Monitor}
 use Rattle.text.proofs.Puts.{nothing}
 use Rattle.program.specs.Steps.{Steps}
 use Rattle.program.proofs.Turns.{turned}

@@ -4,13 +4,14 @@ use mathlib.Core.List.{List, [], _∷_, _++_}
 use Prim.Native.Nat.{ℕ}
 use lib.ListN.{length}
 use Rattle.trace.specs.Lists.{sights}
-use Rattle.monitor.specs.Intervals.{decide, verdictNumber, intervalOf, reportOf}
-use Rattle.monitor.specs.Operators.{declare, reinstate, look, operatedOf, lookedOf}
+use Rattle.intervals.specs.Intervals.{decide, verdictNumber, intervalOf, reportOf}
+use Rattle.intervals.specs.declared.Monitor.{Monitor}
+use Rattle.intervals.specs.declared.Verdict.{Verdict}
+use Rattle.intervals.specs.declared.Verdict.the-variants.{Accept, Refuse}
+use Rattle.intervals.proofs.Refusals.{interval-told}
+use Rattle.operators.specs.Operators.{declare, reinstate, look, operatedOf, lookedOf}
+use Rattle.operators.proofs.Refusals.{operator-told}
 use Rattle.monitor.specs.Calls.{Call, interval, operate, Outcome, refusal, reported, done, reply, next, answer, run}
-use Rattle.monitor.specs.declared.Monitor.{Monitor}
-use Rattle.monitor.specs.declared.Verdict.{Verdict}
-use Rattle.monitor.specs.declared.Verdict.the-variants.{Accept, Refuse}
-use Rattle.monitor.proofs.Refusals.{interval-told, operator-told}
 use Rattle.text.specs.Numbers.{ascii}
 use Rattle.text.specs.Lines.{numberedOf}
 use Rattle.program.proofs.Turns.{refused-number}

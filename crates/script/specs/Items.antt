@@ -11,7 +11,7 @@ use lib.Dec.{leb, eqb}
 use lib.ListN.{length, drop, replicate}
 use Rattle.wire.specs.Fields.{wordAt, wholeAt}
 use Rattle.frames.specs.Frames.{isFrame}
-use Rattle.monitor.specs.Operators.{declare, reinstate, look}
+use Rattle.operators.specs.Operators.{declare, reinstate, look}
 use Rattle.monitor.specs.Calls.{Call, interval, operate}
 
 -- a load, a call of demand 3's lists, or bytes that are neither

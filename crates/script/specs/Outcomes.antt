@@ -2,10 +2,10 @@
 -- is what is printed, so that whatever demand 3 promises of the outcomes of a list holds of its text.
 use mathlib.Core.List.{List, [], _∷_, _++_}
 use Prim.Native.Nat.{ℕ}
-use Rattle.monitor.specs.Assessments.{headerOf, numberOf}
-use Rattle.monitor.specs.Operators.{Operator, declare, reinstate, look}
+use Rattle.intervals.specs.Assessments.{headerOf, numberOf}
+use Rattle.intervals.specs.declared.Monitor.{Monitor}
+use Rattle.operators.specs.Operators.{Operator, declare, reinstate, look}
 use Rattle.monitor.specs.Calls.{Call, interval, operate, Outcome, refusal, reported, done, looked, next}
-use Rattle.monitor.specs.declared.Monitor.{Monitor}
 use Rattle.text.specs.Numbers.{ascii, decimalOf}
 use Rattle.text.specs.Lines.{line, numberedOf, standingOf}
 use Rattle.script.specs.Texts.{acceptedText, callText}

@@ -3,9 +3,9 @@
 use mathlib.Core.Bool.{true, false}
 use mathlib.Core.List.{List, [], _∷_}
 use Prim.Native.Nat.{ℕ}
-use Rattle.monitor.specs.Intervals.{loadOf}
+use Rattle.intervals.specs.declared.Monitor.{Monitor}
+use Rattle.monitor.specs.Loading.{loadOf}
 use Rattle.monitor.specs.Calls.{Call, next}
-use Rattle.monitor.specs.declared.Monitor.{Monitor}
 use Rattle.program.specs.Steps.{Outcome}
 use Rattle.script.specs.Items.{Item, unreadable, loads, calls, itemOf}
 use Rattle.script.specs.Texts.{loadText, callText, errorText}

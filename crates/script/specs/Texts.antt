@@ -7,11 +7,11 @@ use lib.ListN.{length}
 use Rattle.register.specs.Registers.{answerNumber, answerVisits}
 use Rattle.register.specs.declared.Answer.{Answer}
 use Rattle.points.specs.declared.Point.{Point}
-use Rattle.monitor.specs.Assessments.{headerOf, numberOf}
-use Rattle.monitor.specs.Intervals.{verdictNumber, intervalOf, reportOf}
-use Rattle.monitor.specs.Operators.{Operator, declare, reinstate, look, operatedOf, lookedOf}
+use Rattle.intervals.specs.Assessments.{headerOf, numberOf}
+use Rattle.intervals.specs.Intervals.{verdictNumber, intervalOf, reportOf}
+use Rattle.intervals.specs.declared.Monitor.{Monitor}
+use Rattle.operators.specs.Operators.{Operator, declare, reinstate, look, operatedOf, lookedOf}
 use Rattle.monitor.specs.Calls.{Call, interval, operate}
-use Rattle.monitor.specs.declared.Monitor.{Monitor}
 use Rattle.text.specs.Numbers.{ascii}
 use Rattle.text.specs.Lines.{line, linesOf, numberedOf, standingOf}
 

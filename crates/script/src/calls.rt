@@ -1,7 +1,7 @@
 // The calls: each is made in a state, and its answer put into a buffer.
 ghost use Prim.Native.Nat.{_+_, _≤_};
 ghost use lib.ListN.{length};
-ghost use Rattle.monitor.specs.Operators.{declare, reinstate, look};
+ghost use Rattle.operators.specs.Operators.{declare, reinstate, look};
 ghost use Rattle.monitor.specs.Calls.{interval, operate};
 ghost use Rattle.text.specs.Puts.{Put};
 ghost use Rattle.program.specs.Steps.{Steps};

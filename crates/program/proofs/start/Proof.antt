@@ -2,9 +2,9 @@
 use borrow.Author.Needs.{needs}
 use mathlib.Core.Path.{_≡_, ap, _∙_}
 use native.Mathlib.Omega.{arith}
-use Rattle.monitor.specs.Monitors.{unloaded}
-use Rattle.monitor.specs.Intervals.{loadOf}
-use Rattle.monitor.specs.declared.Monitor.{Monitor}
+use Rattle.intervals.specs.Monitors.{unloaded}
+use Rattle.intervals.specs.declared.Monitor.{Monitor}
+use Rattle.monitor.specs.Loading.{loadOf}
 use Rattle.text.proofs.Rooms.{put-within}
 use Rattle.program.proofs.Turns.{start-accepted, start-refused}
 use Rattle.program.proofs.start.Statement.{statement}

@@ -3,7 +3,7 @@ use borrow.Author.Needs.{needs}
 use mathlib.Core.Path.{_≡_, ap, _∙_}
 use lib.IntN.{ℤ}
 use Rattle.signed.proofs.Sizes.{back32}
-use Rattle.monitor.specs.Operators.{declareOf}
+use Rattle.operators.specs.Operators.{declareOf}
 use Rattle.script.proofs.Answers.{declared}
 use Rattle.script.proofs.calls.declare.Statement.{statement}
 use Rattle.script.proofs.calls.declare.Tie as tie

@@ -1,0 +1,6 @@
+-- The words of the crate's contracts.
+pub mod Plants
+pub mod Assessments
+pub mod Monitors
+pub mod Intervals
+pub mod Sights

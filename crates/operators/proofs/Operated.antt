@@ -1,0 +1,103 @@
+-- An operator call by the verdict on where it points, over plain values. Assumes nothing.
+use mathlib.Core.Path.{_≡_, refl, sym, ap, _∙_}
+use mathlib.Core.Bool.{Bool, true, false, cond, _&&_}
+use Prim.Native.Nat.{ℕ, zero, suc, _-_, _≤_, _<_}
+use native.Mathlib.Omega.{arith}
+use borrow.Author.Tests.{le-leb, lt-leb, ltb-true, ltb-false}
+use lib.Dec.{leb, ltb}
+use Rattle.register.specs.declared.Plant.{Plant}
+use Rattle.points.specs.Points.{normal}
+use Rattle.intervals.specs.Plants.{total, place, named, isUnidirectionalAt}
+use Rattle.intervals.specs.Monitors.{pointAt, soundOf}
+use Rattle.intervals.specs.declared.Monitor.{Monitor}
+use Rattle.intervals.specs.declared.Verdict.{Verdict}
+use Rattle.intervals.specs.declared.Verdict.the-variants.{Accept, Refuse}
+use Rattle.intervals.specs.declared.Stepped.{Stepped}
+use Rattle.intervals.proofs.States.{units-small, aggregates-small}
+use Rattle.intervals.proofs.Verdicts.{passed}
+use Rattle.operators.specs.Operators.{Operator, look, permit, change, locateOf, operatorVerdict, stored, operatedOf, operatedAt, lookedOf, lookedAt}
+use Rattle.operators.specs.declared.Looked.{Looked}
+
+-- ---- where a point is
+
+pub named-is : (plant : Plant) (p : ℕ) → named plant p ≡ (leb 1 p && leb p (total plant))
+unfolding named
+named-is plant zero = rw (lt-leb 1 0 (omega arith))
+named-is plant (suc i) = go (ltb i (total plant)) refl
+  where
+    go : (b : Bool) → ltb i (total plant) ≡ b → b ≡ (leb 1 (suc i) && leb (suc i) (total plant))
+    go true e = let h : i < total plant = ltb-true i (total plant) e in rw (le-leb 1 (suc i) (omega arith), le-leb (suc i) (total plant) (omega arith))
+    go false e = let h : total plant ≤ i = ltb-false i (total plant) e in rw (le-leb 1 (suc i) (omega arith), lt-leb (suc i) (total plant) (omega arith))
+
+module _ (m : Monitor) (p : ℕ) where
+  -- the state is sound and the point is named
+  both-pass : locateOf m p ≡ Accept → (soundOf m ≡ true) × (named (m .plant) p ≡ true)
+  unfolding locateOf
+  both-pass e = let loaded = passed (soundOf m) _ 20 e in (loaded .0, passed (named (m .plant) p) _ 10 (loaded .1) .0)
+
+  positive : (q : ℕ) → named (m .plant) q ≡ true → (1 ≤ q) × (q ≤ total (m .plant)) × (place q ≡ q - 1)
+  unfolding named
+  positive zero e = absurd (let z : _≡_ {A = ℕ} 0 1 = cc in omega arith)
+  positive (suc i) e = let h : i < total (m .plant) = ltb-true i (total (m .plant)) e in (omega arith, omega arith, omega arith)
+
+  pub located : locateOf m p ≡ Accept → (1 ≤ p) × (p ≤ 80) × (place p ≡ p - 1)
+  located e =
+      let b = both-pass e in
+      let q = positive p (b .1) in
+      (q .0, omega (arith, q .1, units-small m (b .0), aggregates-small m (b .0)), q .2)
+
+  -- its kinds can be looked up
+  pub located-units : locateOf m p ≡ Accept → m .plant .units ≤ 64
+  located-units e = units-small m (both-pass e .0)
+
+-- ---- what a call does, by where it points
+
+-- a refusal after a test stays one, whatever stands behind the test
+still-refused : (b : Bool) (v w : Verdict) (j k : ℕ) → (v ≡ Refuse k → w ≡ Refuse k) → cond b v (Refuse j) ≡ Refuse k → cond b w (Refuse j) ≡ Refuse k
+still-refused true v w j k f e = f e
+still-refused false v w j k f e = e
+
+module _ (m : Monitor) (p : ℕ) (v : Verdict) (is : v ≡ locateOf m p) where
+  judged-refused : (op : Operator) (k : ℕ) → v ≡ Refuse k → operatorVerdict op m p ≡ Refuse k
+  unfolding operatorVerdict locateOf
+  judged-refused op k e =
+      let own = still-refused (named (m .plant) p) Accept _ 10 k (λ a. absurd (let z : _≡_ {A = ℕ} 0 1 = cc in omega arith)) in
+      still-refused (soundOf m) _ _ 20 k own (sym is ∙ e)
+
+  judged-accepted : (op : Operator) (i : ℕ) → v ≡ Accept → i ≡ p - 1 → operatorVerdict op m p ≡ permit (isUnidirectionalAt (m .plant) i) op (pointAt m i)
+  unfolding operatorVerdict
+  judged-accepted op i e f =
+      let b = both-pass m p (sym is ∙ e) in
+      rw (b .0, b .1) (ap (λ (j : ℕ). permit (isUnidirectionalAt (m .plant) j) op (pointAt m j)) (located m p (sym is ∙ e) .2 ∙ sym f))
+
+  pub refused-call : (op : Operator) (k : ℕ) → v ≡ Refuse k → _≡_ {A = Stepped} (record { verdict = v; monitor = m }) (operatedOf op m p)
+  unfolding operatedOf
+  refused-call op k e = rw (judged-refused op k e, e)
+
+  pub located-call : (op : Operator) (i : ℕ) → v ≡ Accept → i ≡ p - 1 → operatedAt op m i ≡ operatedOf op m p
+  unfolding operatedOf operatedAt
+  located-call op i e f =
+      let at : place p ≡ i = located m p (sym is ∙ e) .2 ∙ sym f in
+      rw (judged-accepted op i e f, at)
+
+  pub refused-look : (k : ℕ) → v ≡ Refuse k → _≡_ {A = Looked} (record { verdict = v; point = normal; monitor = m }) (lookedOf m p)
+  unfolding lookedOf
+  refused-look k e = rw (judged-refused look k e, e)
+
+  pub located-look : (i : ℕ) → v ≡ Accept → i ≡ p - 1 → lookedAt m i ≡ lookedOf m p
+  unfolding lookedOf lookedAt permit
+  located-look i e f =
+      let at : place p ≡ i = located m p (sym is ∙ e) .2 ∙ sym f in
+      rw (judged-accepted look i e f, at)
+
+-- ---- at a point's record
+
+module _ (op : Operator) (m : Monitor) (i : ℕ) (v : Verdict) (is : v ≡ permit (isUnidirectionalAt (m .plant) i) op (pointAt m i)) where
+  pub accepted-at : (n : Monitor) → v ≡ Accept → n ≡ stored m i (change op (pointAt m i))
+      → _≡_ {A = Stepped} (record { verdict = v; monitor = n }) (operatedAt op m i)
+  unfolding operatedAt
+  accepted-at n e f = rw (← is, e, f)
+
+  pub refused-at : (k : ℕ) → v ≡ Refuse k → _≡_ {A = Stepped} (record { verdict = v; monitor = m }) (operatedAt op m i)
+  unfolding operatedAt
+  refused-at k e = rw (← is, e)

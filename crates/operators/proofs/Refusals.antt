@@ -1,0 +1,71 @@
+-- The answer to an operator call in 01's numbers, from the equation for its whole result. Assumes nothing.
+use mathlib.Core.Path.{_≡_, refl}
+use mathlib.Core.Bool.{Bool, true, _||_, not}
+use mathlib.Core.List.{_∷_}
+use Prim.Native.Nat.{ℕ}
+use lib.Dec.{eqb}
+use Rattle.register.specs.declared.Plant.{Plant}
+use Rattle.points.specs.Points.{normal}
+use Rattle.points.specs.declared.Point.{Point}
+use Rattle.intervals.specs.Plants.{place, named, isUnidirectionalAt}
+use Rattle.intervals.specs.Monitors.{pointAt, soundOf}
+use Rattle.intervals.specs.Intervals.{decide, verdictNumber, Answered}
+use Rattle.intervals.specs.declared.Monitor.{Monitor}
+use Rattle.intervals.specs.declared.Stepped.{Stepped}
+use Rattle.intervals.specs.declared.Verdict.{Verdict}
+use Rattle.intervals.specs.declared.Verdict.the-variants.{Accept, Refuse}
+use Rattle.intervals.proofs.Refusals.{Goes, accepts, unless, told, without}
+use Rattle.operators.specs.Operators.{Operator, declare, reinstate, look, allowedLevel, permit, ownRefusals, judgeOperator, operatorVerdict}
+use Rattle.operators.specs.Operators.{operatorRefusal, operatedOf, lookedOf, lookValues, Looks}
+use Rattle.operators.specs.declared.Looked.{Looked}
+
+module _ (unidirectional : Bool) where
+  permit-goes : (op : Operator) (q : Point) → Goes (permit unidirectional op q) (ownRefusals unidirectional op q)
+  unfolding permit ownRefusals
+  permit-goes (declare level) q = unless 11 (unless 22 accepts (eqb (q .status) 2 || eqb (q .status) 3)) (allowedLevel unidirectional level)
+  permit-goes reinstate q = unless 23 accepts (eqb (q .status) 4)
+  permit-goes look q = accepts
+
+  -- the numbers of a call's own refusals
+  pub own-without : (op : Operator) (q : Point)
+      → (without 0 (ownRefusals unidirectional op q) ≡ true) × (without 20 (ownRefusals unidirectional op q) ≡ true)
+  unfolding ownRefusals
+  own-without (declare level) q = (refl, refl)
+  own-without reinstate q = (refl, refl)
+  own-without look q = (refl, refl)
+
+pub operator-goes : (plant : Plant) (op : Operator) (p : ℕ) (q : Point)
+    → Goes (judgeOperator plant op p q) ((10, not (named plant p)) ∷ ownRefusals (isUnidirectionalAt plant (place p)) op q)
+operator-goes plant op p q = unless 10 (permit-goes (isUnidirectionalAt plant (place p)) op q) (named plant p)
+
+shown-values : (v : Verdict) (q : Point) → decide v (λ k. normal) q ≡ lookValues v q
+unfolding lookValues
+shown-values Accept q = refl
+shown-values (Refuse k) q = refl
+
+module _ (m : Monitor) (p : ℕ) where
+  abbrev unidirectional : Bool
+  unidirectional = isUnidirectionalAt (m .plant) (place p)
+
+  goes : (op : Operator)
+      → Goes (operatorVerdict op m p)
+      ((20, not (soundOf m)) ∷ (10, not (named (m .plant) p)) ∷ ownRefusals unidirectional op (pointAt m (place p)))
+  unfolding operatorVerdict
+  goes op = unless 20 (operator-goes (m .plant) op p (pointAt m (place p))) (soundOf m)
+
+  pub operator-told : (op : Operator) → verdictNumber (operatorVerdict op m p) ≡ 0 → operatorVerdict op m p ≡ Accept
+  operator-told op = told _ (goes op) (own-without unidirectional op (pointAt m (place p)) .0)
+
+  pub operator-answered : (op : Operator) (r : Stepped) → r ≡ operatedOf op m p → Answered (operatedOf op m p) (operatorRefusal op m p) r
+  unfolding operatedOf operatorRefusal
+  operator-answered op r e = record { result = e; number = rw e (goes op .number) }
+
+  -- what look promises of its result
+  pub looks : (r : Looked) → r ≡ lookedOf m p → Looks m p r
+  unfolding lookedOf operatorRefusal
+  looks r e =
+      record {
+        result = e;
+        number = rw e (goes look .number);
+        values = rw e (shown-values (operatorVerdict look m p) (pointAt m (place p)));
+      }

@@ -1,0 +1,184 @@
+// The operator calls (01, "Report and operator calls").
+use intervals::Monitor;
+use intervals::Stepped;
+use intervals::Verdict;
+use points::Point;
+use register::Plant;
+ghost use mathlib.Core.Path.{_≡_};
+ghost use mathlib.Core.Bool.{_&&_};
+ghost use Prim.Native.Nat.{_+_, _≤_, _<_};
+ghost use lib.Dec.{leb};
+ghost use Rattle.intervals.specs.Plants.{isUnidirectionalAt};
+ghost use Rattle.intervals.specs.Intervals.{Answered};
+ghost use Rattle.operators.specs.Operators.{declare, reinstate, operatorRefusal, allowedLevel, permitDeclare, permitReinstate, locateOf, stored};
+ghost use Rattle.operators.specs.Operators.{declareAt, reinstateAt, lookedAt, declareOf, reinstateOf, Looks};
+
+// What a look answers: the point's record, or zeros where it is refused. The state is the one that came in.
+pub struct Looked {
+    pub verdict: Verdict,
+    pub point: Point,
+    pub monitor: Monitor,
+}
+
+// 10: a point from 1 to n+m.
+fn is_named(units: usize, aggregates: usize, point: u32) -> bool
+    requires { ⌜ (units ≤ 64) × (aggregates ≤ 16) ⌝ }
+    ensures { λ r. ⌜ r ≡ (leb 1 point && leb point (units + aggregates)) ⌝ }
+{
+    (1 <= point) & (point as usize <= units + aggregates)
+}
+
+// 20, then 10.
+fn locate(m: Monitor, point: u32) -> Verdict
+    ensures { λ r. ⌜ r ≡ locateOf m point ⌝ }
+{
+    if !intervals::is_sound(m) {
+        return Verdict::Refuse(20);
+    }
+    let plant = m.plant;
+    if !is_named(plant.units, plant.aggregates, point) {
+        return Verdict::Refuse(10);
+    }
+    Verdict::Accept
+}
+
+// Whether the point at place i is that of a unit of kind 1, 2 or 4.
+fn is_unidirectional_at(plant: Plant, i: usize) -> bool
+    requires { ⌜ plant .units ≤ 64 ⌝ }
+    ensures { λ r. ⌜ r ≡ isUnidirectionalAt plant i ⌝ }
+{
+    if i < plant.units {
+        return telemetry::is_unidirectional(plant.kinds[i]);
+    }
+    false
+}
+
+// 11: within ±128,000,000, and not negative where that cannot be dispatched.
+fn level_allowed(unidirectional: bool, level: i32) -> bool
+    ensures { λ r. ⌜ r ≡ allowedLevel unidirectional level ⌝ }
+{
+    let bounded = signed::size(signed::widened(level)) <= 128000000;
+    bounded & !(unidirectional & (level < 0))
+}
+
+// 11, then 22.
+fn permit_declare(unidirectional: bool, level: i32, q: Point) -> Verdict
+    ensures { λ r. ⌜ r ≡ permitDeclare unidirectional level q ⌝ }
+{
+    if level_allowed(unidirectional, level) {
+        if (q.status == 2) | (q.status == 3) {
+            return Verdict::Accept;
+        }
+        return Verdict::Refuse(22);
+    }
+    Verdict::Refuse(11)
+}
+
+// 23.
+fn permit_reinstate(q: Point) -> Verdict
+    ensures { λ r. ⌜ r ≡ permitReinstate q ⌝ }
+{
+    if q.status == 4 {
+        return Verdict::Accept;
+    }
+    Verdict::Refuse(23)
+}
+
+fn store(m: Monitor, i: usize, q: Point) -> Monitor
+    requires { ⌜ i < 80 ⌝ }
+    ensures { λ r. ⌜ r ≡ stored m i q ⌝ }
+{
+    let mut next = m;
+    next.points[i] = q;
+    next
+}
+
+fn declare_at(m: Monitor, i: usize, level: i32) -> Stepped
+    requires { ⌜ (i < 80) × (m .plant .units ≤ 64) ⌝ }
+    ensures { λ r. ⌜ r ≡ declareAt m i level ⌝ }
+{
+    let q = m.points[i];
+    let verdict = permit_declare(is_unidirectional_at(m.plant, i), level, q);
+    match verdict {
+        Verdict::Accept => Stepped {
+            verdict,
+            monitor: store(m, i, q.declare(level)),
+        },
+        Verdict::Refuse(_) => Stepped {
+            verdict,
+            monitor: m,
+        },
+    }
+}
+
+fn reinstate_at(m: Monitor, i: usize) -> Stepped
+    requires { ⌜ i < 80 ⌝ }
+    ensures { λ r. ⌜ r ≡ reinstateAt m i ⌝ }
+{
+    let q = m.points[i];
+    let verdict = permit_reinstate(q);
+    match verdict {
+        Verdict::Accept => Stepped {
+            verdict,
+            monitor: store(m, i, q.reinstate()),
+        },
+        Verdict::Refuse(_) => Stepped {
+            verdict,
+            monitor: m,
+        },
+    }
+}
+
+// Declares a point at a level. A refusal, 20, 10, 11 or 22, returns the old state.
+pub fn declare(m: Monitor, point: u32, level: i32) -> Stepped
+    ensures { λ r. ⌜ Answered (declareOf m point level) (operatorRefusal (declare level) m point) r ⌝ }
+{
+    let found = locate(m, point);
+    match found {
+        Verdict::Accept => declare_at(m, (point - 1) as usize, level),
+        Verdict::Refuse(_) => Stepped {
+            verdict: found,
+            monitor: m,
+        },
+    }
+}
+
+// Reinstates a declared point. A refusal, 20, 10 or 23, returns the old state.
+pub fn reinstate(m: Monitor, point: u32) -> Stepped
+    ensures { λ r. ⌜ Answered (reinstateOf m point) (operatorRefusal reinstate m point) r ⌝ }
+{
+    let found = locate(m, point);
+    match found {
+        Verdict::Accept => reinstate_at(m, (point - 1) as usize),
+        Verdict::Refuse(_) => Stepped {
+            verdict: found,
+            monitor: m,
+        },
+    }
+}
+
+fn look_at(m: Monitor, i: usize) -> Looked
+    requires { ⌜ i < 80 ⌝ }
+    ensures { λ r. ⌜ r ≡ lookedAt m i ⌝ }
+{
+    Looked {
+        verdict: Verdict::Accept,
+        point: m.points[i],
+        monitor: m,
+    }
+}
+
+// A point's status, runs and level. A refusal, 20 or 10, gives zeros. The state stays as it is.
+pub fn look(m: Monitor, point: u32) -> Looked
+    ensures { λ r. ⌜ Looks m point r ⌝ }
+{
+    let found = locate(m, point);
+    match found {
+        Verdict::Accept => look_at(m, (point - 1) as usize),
+        Verdict::Refuse(_) => Looked {
+            verdict: found,
+            point: points::normal_point(),
+            monitor: m,
+        },
+    }
+}
