@@ -5,10 +5,11 @@
     make_calls.py --check   writes nothing; exit 1 where a file differs from what would be written, or where the lines of the
                             group that two lists share, `alike_1` and `alike_2` among them, are not equal
 
-Every expected line is worked out by hand from 01, for kind 4 from 02, 2026-01, and for levels from 02, 2026-02; nothing here
-computes a mark or a level, and no monitor is run. A step of a list is a call's bytes and the lines that it prints. A point's line
-is interval, point, status (0 Normal, 1 Off-Target, 2 Not-Responding, 3 NC-Pending, 4 Non-Conforming), mark (0 OFF, 1 BLANK,
-2 CLEAR, 3 DOUBT, 4 SMALL, 5 LARGE), small run, large run, error, small trigger, level.
+Every expected line is worked out by hand from 01, for kind 4 from 02, 2026-01, for levels from 02, 2026-02, and for reasons from
+02, 2026-06; nothing here computes a mark, a level or a reason, and no monitor is run. A step of a list is a call's bytes and the
+lines that it prints. A point's line is interval, point, status (0 Normal, 1 Off-Target, 2 Not-Responding, 3 NC-Pending,
+4 Non-Conforming), mark (0 OFF, 1 BLANK, 2 CLEAR, 3 DOUBT, 4 SMALL, 5 LARGE), small run, large run, error, small trigger, level. A
+reason is small, large or operator, then the numbers of the first mark counted in that run and of the declaring mark.
 
 tests/calls/alike_*/group has the numbers of the output's lines that belong to the group, one a line. Two lists that are alike
 have one name but for its end, _1 and _2.
@@ -55,6 +56,10 @@ def reinstate(point):
 
 def look(point):
     return call(5, struct.pack("<I", point))  # 0 point
+
+
+def reason(point):
+    return call(6, struct.pack("<I", point))  # 0 point
 
 
 # ---- steps: a call's bytes, then its lines
@@ -1197,6 +1202,901 @@ def levels_plant():
     ]
 
 
+# ---- reasons (02, 2026-06)
+
+# What a unit sends by `wide`: on target; 7,000 over, SMALL; 11,000 over, LARGE; the same substituted, DOUBT; bad, BLANK; and a line
+# that cannot be read, BLANK, after which nothing is kept, so that the next mark is BLANK too.
+ON, OVER, FAR = wide(100.0), wide(107.0), wide(111.0)
+UNSURE, BAD_LINE, UNREADABLE = wide(111.0, quality=SUBSTITUTED), wide(0.0, quality=BAD), wide(111.0, quality=3)
+
+
+def taken(number, mode, *units, more=()):
+    """An accepted interval: of each unit its line and what is printed of it; then what is printed of the aggregates."""
+    lines, texts = zip(*units)
+    return accepted(interval(number, mode, *lines), *numbered(number, [*texts, *more]))
+
+
+def reasons(*answers):
+    """The reason of each point from 1 on; None where the point is not declared: 36."""
+    return [(reason(point), f"reason accepted {answer}" if answer else "reason refused 36")
+            for point, answer in enumerate(answers, 1)]
+
+
+def each_reason():
+    """Units 1 to 3 in no chain, declared by the small run, by the large run and by the operator. Small run 2, 4, 6; large run 2,
+    3, 4. 36 at every other status."""
+    def at(number, *units):
+        return taken(number, AUTOMATIC, *units)
+
+    return [
+        (load(register((2, 4, 6, 2, 3, 4), [(GENERATING, 0)] * 3)), "load accepted 0"),
+        # Status 0: before any interval, then after a BLANK.
+        *reasons(None, None, None),
+        at(1000, (ON, "0 1 0 0 0 0 0"), (ON, "0 1 0 0 0 0 0"), (ON, "0 1 0 0 0 0 0")),
+        *reasons(None, None, None),
+        # Unit 1: the first SMALL of its run. Status 1, and 0 after a CLEAR.
+        at(1001, (OVER, "1 4 1 0 7000 600000 0"), (ON, "0 2 0 0 0 600000 0"), (ON, "0 2 0 0 0 600000 0")),
+        *reasons(None, None, None),
+        # Unit 2: the first LARGE of its run.
+        at(1002, (OVER, "2 4 2 0 7000 600000 0"), (FAR, "1 5 1 1 11000 600000 0"), (ON, "0 2 0 0 0 600000 0")),
+        at(1003, (OVER, "2 4 3 0 7000 600000 0"), (FAR, "2 5 2 2 11000 600000 0"), (OVER, "1 4 1 0 7000 600000 0")),
+        at(1004, (OVER, "3 4 4 0 7000 600000 0"), (FAR, "3 5 3 3 11000 600000 0"), (OVER, "2 4 2 0 7000 600000 0")),
+        # Status 3, by the small run and by the large run, and status 2.
+        *reasons(None, None, None),
+        (declare(3, 50_000), "declare accepted"),
+        *reasons(None, None, "operator 0 0"),
+        # Unit 2: large run 4 = Dl. Its small run, 4, is below Ds.
+        at(1005, (OVER, "3 4 5 0 7000 600000 0"), (FAR, "4 5 0 0 11000 600000 111000"), (OVER, "4 4 0 0 7000 600000 50000")),
+        *reasons(None, "large 1002 1005", "operator 0 0"),
+        # Unit 1: small run 6 = Ds.
+        at(1006, (OVER, "4 4 0 0 7000 600000 107000"), (ON, "4 2 0 0 0 600000 111000"), (ON, "4 2 0 0 0 600000 50000")),
+        *reasons("small 1001 1006", "large 1002 1005", "operator 0 0"),
+    ]
+
+
+def every_status_asked():
+    """The calls of `every_status`, and after each of them the reason twice. Asking changes nothing, so the rest is what it was."""
+    steps = every_status()
+    answers = [
+        *["refused 36"] * 12,  # to interval 8
+        # At 9 by the small run: SMALL or LARGE at 2, 3, 4, 7, 8 and 9, with DOUBT and BLANK among them.
+        *["accepted small 2 9"] * 4,  # to interval 11
+        *["refused 36"] * 8,  # from the reinstatement to interval 17
+        # At 18 by the large run, LARGE since the CLEAR at 14; its small run, 4, is below 6.
+        *["accepted large 15 18"] * 2,
+    ]
+    asked = [(reason(1) * 2, *[f"reason {answer}"] * 2) for answer in answers]
+    return [step for pair in zip(steps, asked, strict=True) for step in pair]
+
+
+def reason_both_runs():
+    """Marks that bring one run to its length, and marks that bring both: large then, with the large run's first mark."""
+    def at(number, *units):
+        return taken(number, AUTOMATIC, *units)
+
+    none = ON, "0 1 0 0 0 0 0"
+    on_111, on_107 = (ON, "4 2 0 0 0 600000 111000"), (ON, "4 2 0 0 0 600000 107000")
+    return [
+        # Ds 5, Dl 4. Unit 1: SMALL, LARGE x 4. Unit 2: LARGE, SMALL, LARGE x 3. Unit 3: LARGE x 4. Unit 4: SMALL x 4, LARGE.
+        (load(register((2, 3, 5, 2, 3, 4), [(GENERATING, 0)] * 4)), "load accepted 0"),
+        at(10, none, none, none, none),
+        at(11, (OVER, "1 4 1 0 7000 600000 0"), (FAR, "1 5 1 1 11000 600000 0"),
+           (FAR, "1 5 1 1 11000 600000 0"), (OVER, "1 4 1 0 7000 600000 0")),
+        at(12, (FAR, "2 5 2 1 11000 600000 0"), (OVER, "2 4 2 0 7000 600000 0"),
+           (FAR, "2 5 2 2 11000 600000 0"), (OVER, "2 4 2 0 7000 600000 0")),
+        at(13, (FAR, "3 5 3 2 11000 600000 0"), (FAR, "3 5 3 1 11000 600000 0"),
+           (FAR, "3 5 3 3 11000 600000 0"), (OVER, "3 4 3 0 7000 600000 0")),
+        # Unit 3: large run 4, small run 4.
+        at(14, (FAR, "3 5 4 3 11000 600000 0"), (FAR, "3 5 4 2 11000 600000 0"),
+           (FAR, "4 5 0 0 11000 600000 111000"), (OVER, "3 4 4 0 7000 600000 0")),
+        *reasons(None, None, "large 11 14", None),
+        # Small run 5 for the others; large run 4, 3 and 1.
+        at(15, (FAR, "4 5 0 0 11000 600000 111000"), (FAR, "4 5 0 0 11000 600000 111000"), on_111,
+           (FAR, "4 5 0 0 11000 600000 111000")),
+        *reasons("large 12 15", "small 11 15", "large 11 14", "small 11 15"),
+        # Ds 4, Dl 4. Unit 1: LARGE x 4. Unit 2: SMALL, LARGE x 3. Unit 3: LARGE, SMALL x 3. Unit 4: CLEAR, SMALL, LARGE x 3.
+        (load(register(LENGTHS, [(GENERATING, 0)] * 4)), "load accepted 0"),
+        at(20, none, none, none, none),
+        at(21, (FAR, "1 5 1 1 11000 600000 0"), (OVER, "1 4 1 0 7000 600000 0"),
+           (FAR, "1 5 1 1 11000 600000 0"), (ON, "0 2 0 0 0 600000 0")),
+        at(22, (FAR, "2 5 2 2 11000 600000 0"), (FAR, "2 5 2 1 11000 600000 0"),
+           (OVER, "2 4 2 0 7000 600000 0"), (OVER, "1 4 1 0 7000 600000 0")),
+        at(23, (FAR, "3 5 3 3 11000 600000 0"), (FAR, "3 5 3 2 11000 600000 0"),
+           (OVER, "3 4 3 0 7000 600000 0"), (FAR, "2 5 2 1 11000 600000 0")),
+        # Both runs of unit 1 are at 4 and have one first mark: large. Large run 3 for unit 2, 0 for unit 3: small.
+        at(24, (FAR, "4 5 0 0 11000 600000 111000"), (FAR, "4 5 0 0 11000 600000 111000"),
+           (OVER, "4 4 0 0 7000 600000 107000"), (FAR, "3 5 3 2 11000 600000 0")),
+        *reasons("large 21 24", "small 21 24", "small 21 24", None),
+        at(25, on_111, on_111, on_107, (FAR, "4 5 0 0 11000 600000 111000")),
+        *reasons("large 21 24", "small 21 24", "small 21 24", "small 22 25"),
+    ]
+
+
+def reason_manual_runs():
+    """Manual mode brings runs to their lengths and beyond; the first SMALL or LARGE in automatic mode declares, and the runs after
+    that mark decide."""
+    none, on = (ON, "0 1 0 0 0 0 0"), (ON, "0 2 0 0 0 600000 0")
+    on_111, on_107 = (ON, "4 2 0 0 0 600000 111000"), (ON, "4 2 0 0 0 600000 107000")
+    small_1, small_2 = (OVER, "1 4 1 0 7000 600000 0"), (OVER, "2 4 2 0 7000 600000 0")
+    by_small, by_large = (OVER, "4 4 0 0 7000 600000 107000"), (FAR, "4 5 0 0 11000 600000 111000")
+
+    def large(status, small, run):
+        return FAR, f"{status} 5 {small} {run} 11000 600000 0"
+
+    return [
+        # Ds 4, Dl 6. Unit 1: SMALL x 2, LARGE x 5. Unit 2: SMALL x 3, LARGE x 4. Units 3 and 4: LARGE x 7.
+        (load(register((2, 3, 4, 2, 3, 6), [(GENERATING, 0)] * 4)), "load accepted 0"),
+        taken(500, MANUAL, none, none, none, none),
+        taken(501, MANUAL, small_1, small_1, large(1, 1, 1), large(1, 1, 1)),
+        taken(502, MANUAL, small_2, small_2, large(2, 2, 2), large(2, 2, 2)),
+        taken(503, MANUAL, large(2, 3, 1), (OVER, "2 4 3 0 7000 600000 0"), large(2, 3, 3), large(2, 3, 3)),
+        taken(504, MANUAL, large(2, 4, 2), large(2, 4, 1), large(2, 4, 4), large(2, 4, 4)),
+        taken(505, MANUAL, large(2, 5, 3), large(2, 5, 2), large(2, 5, 5), large(2, 5, 5)),
+        taken(506, MANUAL, large(2, 6, 4), large(2, 6, 3), large(2, 6, 6), large(2, 6, 6)),
+        taken(507, MANUAL, large(2, 7, 5), large(2, 7, 4), large(2, 7, 7), large(2, 7, 7)),
+        # Beyond both lengths, and not declared.
+        *reasons(None, None, None, None),
+        # Runs 8 and 6: both. 8 and 5: small. 8 and 8: both. SMALL sets unit 4's large run to 0, 8 and 0: small.
+        taken(508, AUTOMATIC, by_large, by_large, by_large, by_small),
+        *reasons("large 503 508", "small 501 508", "large 501 508", "small 501 508"),
+        # Ds 7, Dl 4. Units 1 and 3: SMALL, LARGE x 5. Units 2 and 4: CLEAR, LARGE x 5.
+        (load(register((2, 3, 7, 2, 3, 4), [(GENERATING, 0)] * 4)), "load accepted 0"),
+        taken(600, MANUAL, none, none, none, none),
+        taken(601, MANUAL, small_1, on, small_1, on),
+        taken(602, MANUAL, large(2, 2, 1), large(1, 1, 1), large(2, 2, 1), large(1, 1, 1)),
+        taken(603, MANUAL, large(2, 3, 2), large(2, 2, 2), large(2, 3, 2), large(2, 2, 2)),
+        taken(604, MANUAL, large(2, 4, 3), large(2, 3, 3), large(2, 4, 3), large(2, 3, 3)),
+        taken(605, MANUAL, large(2, 5, 4), large(2, 4, 4), large(2, 5, 4), large(2, 4, 4)),
+        taken(606, MANUAL, large(2, 6, 5), large(2, 5, 5), large(2, 6, 5), large(2, 5, 5)),
+        *reasons(None, None, None, None),
+        # Runs 7 and 6: both. 6 and 6: large alone. 7 and 0: small. 6 and 0: neither is at its length, status 3.
+        taken(607, AUTOMATIC, by_large, by_large, by_small, (OVER, "3 4 6 0 7000 600000 0")),
+        *reasons("large 602 607", "large 602 607", "small 601 607", None),
+        # Unit 4: runs 7 and 1. Its first mark is LARGE at 602.
+        taken(608, AUTOMATIC, on_111, on_111, on_107, by_large),
+        *reasons("large 602 607", "large 602 607", "small 601 607", "small 602 608"),
+    ]
+
+
+def reason_small_in_midst():
+    """SMALL ends a large run and not the small one. Units 1 to 3 in no chain. Small run 2, 5, 9; large run 2, 3, 4."""
+    def at(number, *units):
+        return taken(number, AUTOMATIC, *units)
+
+    none = ON, "0 1 0 0 0 0 0"
+    return [
+        (load(register((2, 5, 9, 2, 3, 4), [(GENERATING, 0)] * 3)), "load accepted 0"),
+        at(70_000, none, none, none),
+        at(70_001, (FAR, "1 5 1 1 11000 600000 0"), (FAR, "1 5 1 1 11000 600000 0"), (ON, "0 2 0 0 0 600000 0")),
+        at(70_002, (FAR, "2 5 2 2 11000 600000 0"), (FAR, "2 5 2 2 11000 600000 0"), (OVER, "1 4 1 0 7000 600000 0")),
+        # Unit 2: SMALL, and its large run is 0. Status 3 goes to 2.
+        at(70_003, (FAR, "3 5 3 3 11000 600000 0"), (OVER, "2 4 3 0 7000 600000 0"), (FAR, "2 5 2 1 11000 600000 0")),
+        # Unit 1 likewise, one short of Dl.
+        at(70_004, (OVER, "2 4 4 0 7000 600000 0"), (FAR, "2 5 4 1 11000 600000 0"), (OVER, "2 4 3 0 7000 600000 0")),
+        # Unit 1: the first mark of a new large run. Small run 5 = Ps.
+        at(70_005, (FAR, "3 5 5 1 11000 600000 0"), (FAR, "3 5 5 2 11000 600000 0"), (FAR, "2 5 4 1 11000 600000 0")),
+        at(70_006, (FAR, "3 5 6 2 11000 600000 0"), (OVER, "3 4 6 0 7000 600000 0"), (OVER, "3 4 5 0 7000 600000 0")),
+        at(70_007, (FAR, "3 5 7 3 11000 600000 0"), (FAR, "3 5 7 1 11000 600000 0"), (FAR, "3 5 6 1 11000 600000 0")),
+        # Unit 1: large run 4, small run 8.
+        at(70_008, (FAR, "4 5 0 0 11000 600000 111000"), (FAR, "3 5 8 2 11000 600000 0"), (OVER, "3 4 7 0 7000 600000 0")),
+        *reasons("large 70005 70008", None, None),
+        # Unit 2: small run 9 with LARGE first and last in it, large run 3.
+        at(70_009, (OVER, "4 4 0 0 7000 600000 111000"), (FAR, "4 5 0 0 11000 600000 111000"), (FAR, "3 5 8 1 11000 600000 0")),
+        *reasons("large 70005 70008", "small 70001 70009", None),
+        # Unit 3: SMALL and LARGE in turn, small run 9.
+        at(70_010, (FAR, "4 5 0 0 11000 600000 111000"), (ON, "4 2 0 0 0 600000 111000"), (OVER, "4 4 0 0 7000 600000 107000")),
+        *reasons("large 70005 70008", "small 70001 70009", "small 70002 70010"),
+    ]
+
+
+def reason_blank_and_doubt():
+    """BLANK and DOUBT between the marks neither clear a run nor move its first mark. Small run 2, 3, 5; large run 2, 3, 4."""
+    def at(number, *units):
+        return taken(number, AUTOMATIC, *units)
+
+    return [
+        (load(register((2, 3, 5, 2, 3, 4), [(GENERATING, 0)] * 2)), "load accepted 0"),
+        at(300, (ON, "0 1 0 0 0 0 0"), (ON, "0 1 0 0 0 0 0")),
+        at(301, (OVER, "1 4 1 0 7000 600000 0"), (OVER, "1 4 1 0 7000 600000 0")),
+        # Quality 2: BLANK; its target is kept. Then DOUBT.
+        at(302, (BAD_LINE, "1 1 1 0 0 0 0"), (BAD_LINE, "1 1 1 0 0 0 0")),
+        at(303, (UNSURE, "1 3 1 0 11000 600000 0"), (UNSURE, "1 3 1 0 11000 600000 0")),
+        # Unit 2: the first mark of its large run.
+        at(304, (OVER, "2 4 2 0 7000 600000 0"), (FAR, "2 5 2 1 11000 600000 0")),
+        # Unreadable: BLANK. Then nothing is kept: BLANK.
+        at(305, (UNREADABLE, "2 1 2 0 0 0 0"), (UNREADABLE, "2 1 2 1 0 0 0")),
+        at(306, (OVER, "2 1 2 0 0 0 0"), (FAR, "2 1 2 1 0 0 0")),
+        at(307, (FAR, "3 5 3 1 11000 600000 0"), (FAR, "3 5 3 2 11000 600000 0")),
+        at(308, (UNSURE, "3 3 3 1 11000 600000 0"), (UNSURE, "3 3 3 2 11000 600000 0")),
+        at(309, (OVER, "3 4 4 0 7000 600000 0"), (FAR, "3 5 4 3 11000 600000 0")),
+        at(310, (BAD_LINE, "3 1 4 0 0 0 0"), (BAD_LINE, "3 1 4 3 0 0 0")),
+        *reasons(None, None),
+        # Unit 1: small run 5 by 301, 304, 307, 309 and 311. Unit 2: the same, and large run 4 by 304, 307, 309 and 311.
+        at(311, (OVER, "4 4 0 0 7000 600000 107000"), (FAR, "4 5 0 0 11000 600000 111000")),
+        *reasons("small 301 311", "large 304 311"),
+        at(312, (UNSURE, "4 3 0 0 11000 600000 107000"), (BAD_LINE, "4 1 0 0 0 0 111000")),
+        at(313, (UNREADABLE, "4 1 0 0 0 0 107000"), (UNSURE, "4 3 0 0 11000 600000 111000")),
+        *reasons("small 301 311", "large 304 311"),
+        # Reinstated. BLANK, DOUBT and BLANK begin no run: the first mark is the first that is counted.
+        *reinstated(1, 2),
+        *reasons(None, None),
+        at(314, (FAR, "0 1 0 0 0 0 0"), (BAD_LINE, "0 1 0 0 0 0 0")),
+        at(315, (UNSURE, "0 3 0 0 11000 600000 0"), (UNSURE, "0 3 0 0 11000 600000 0")),
+        at(316, (BAD_LINE, "0 1 0 0 0 0 0"), (FAR, "1 5 1 1 11000 600000 0")),
+        at(317, (FAR, "1 5 1 1 11000 600000 0"), (UNSURE, "1 3 1 1 11000 600000 0")),
+        at(318, (FAR, "2 5 2 2 11000 600000 0"), (FAR, "2 5 2 2 11000 600000 0")),
+        at(319, (FAR, "3 5 3 3 11000 600000 0"), (FAR, "3 5 3 3 11000 600000 0")),
+        # Large run 4 for both, by 317 to 320, and by 316, 318, 319 and 320.
+        at(320, (FAR, "4 5 0 0 11000 600000 111000"), (FAR, "4 5 0 0 11000 600000 111000")),
+        *reasons("large 317 320", "large 316 320"),
+    ]
+
+
+def reason_off_and_clear():
+    """OFF and CLEAR between the marks clear the runs: the first mark is one after them. Unit 1 (generating) in no chain, unit 2
+    (generating) a chain of its own, point 4, unit 3 (semi-scheduled) in no chain.
+
+    The aggregate has the sums of one member: the same error and triggers.
+    """
+    def at(number, one, two, three, four):
+        return taken(number, AUTOMATIC, one, two, three, more=[four])
+
+    def sun(mw, cap=1):
+        return wide(mw, cap=cap)
+
+    def large(status, small, run):
+        return f"{status} 5 {small} {run} 11000 600000 0"
+
+    over, far = wide(107.0, mode=2), wide(111.0, mode=2)
+    none, off, on = "0 1 0 0 0 0 0", "0 0 0 0 0 0 0", "0 2 0 0 0 600000 0"
+    small_1, small_2, small_3 = "1 4 1 0 7000 600000 0", "2 4 2 0 7000 600000 0", "3 4 3 0 7000 600000 0"
+    declared, on_111 = "4 5 0 0 11000 600000 111000", (ON, "4 2 0 0 0 600000 111000")
+    return [
+        (load(register(LENGTHS, [(GENERATING, 0), (GENERATING, 0), (SEMI_SCHEDULED, 0)], [2])), "load accepted 1"),
+        at(40, (ON, none), (wide(100.0, mode=2), none), (sun(100.0), none), none),
+        at(41, (FAR, large(1, 1, 1)), (far, large(1, 1, 1)), (sun(111.0), large(1, 1, 1)), large(1, 1, 1)),
+        at(42, (FAR, large(2, 2, 2)), (far, large(2, 2, 2)), (sun(111.0, cap=0), large(2, 2, 2)), large(2, 2, 2)),
+        # CLEAR; OFF by conformance mode 1, which is not OFF for the aggregate; OFF by the kept flag of 0.
+        at(43, (ON, on), (wide(111.0, mode=1), off), (sun(111.0), off), large(3, 3, 3)),
+        # Runs from 44 on. The aggregate's are 4 and 4.
+        at(44, (FAR, large(1, 1, 1)), (far, large(1, 1, 1)), (sun(111.0), large(1, 1, 1)), declared),
+        *reasons(None, None, None, "large 41 44"),
+        at(45, (OVER, small_2), (over, small_2), (sun(107.0), small_2), "4 4 0 0 7000 600000 111000"),
+        # Substituted and on target: CLEAR. Conformance mode 0: OFF for the aggregate too. Too low with a kept flag of 1: CLEAR.
+        at(46, (wide(100.0, quality=SUBSTITUTED), on), (wide(111.0, mode=0), off), (sun(50.0), "0 2 0 0 -50000 600000 0"),
+           "4 0 0 0 0 0 111000"),
+        # Runs of units 1 and 3 from 47 on; unit 2 is OFF once more.
+        at(47, (OVER, small_1), (wide(111.0, mode=1), off), (sun(107.0), small_1), declared),
+        at(48, (OVER, small_2), (far, large(1, 1, 1)), (sun(107.0, cap=0), small_2), declared),
+        *reasons(None, None, None, "large 41 44"),
+        *reinstated(4),
+        # Unit 3 is OFF by the kept flag.
+        at(49, (FAR, large(3, 3, 1)), (far, large(2, 2, 2)), (sun(111.0), off), large(1, 1, 1)),
+        # Unit 1: small run 4 by 47 to 50, large run 2.
+        at(50, (FAR, declared), (over, small_3), (sun(107.0), small_1), small_2),
+        *reasons("small 47 50", None, None, None),
+        # Unit 2: small run 4 by 48 to 51, large run 1.
+        at(51, on_111, (far, declared), (sun(111.0), large(2, 2, 1)), large(3, 3, 1)),
+        *reasons("small 47 50", "small 48 51", None, None),
+        # OFF ends the aggregate's runs; unit 2's declaration stands.
+        at(52, on_111, (wide(111.0, mode=0), "4 0 0 0 0 0 111000"), (sun(111.0), large(3, 3, 2)), off),
+        # Unit 3: small run 4 by 50 to 53, large run 3.
+        at(53, on_111, (far, declared), (sun(111.0), declared), large(1, 1, 1)),
+        *reasons("small 47 50", "small 48 51", "small 50 53", None),
+    ]
+
+
+def reason_jump():
+    """Numbers far apart. The mark of an interval after a jump is BLANK, or OFF where that fits first, and none is counted there.
+    Unit 1 in no chain; unit 2 a chain of its own, point 3."""
+    def at(number, first, second, three):
+        return taken(number, AUTOMATIC, first, second, more=[three])
+
+    over, far = wide(107.0, mode=2), wide(111.0, mode=2)
+    on_107, declared = (ON, "4 2 0 0 0 600000 107000"), "4 5 0 0 11000 600000 111000"
+    last = 4_000_000_000
+    return [
+        (load(register(LENGTHS, [(GENERATING, 0), (GENERATING, 0)], [2])), "load accepted 1"),
+        at(7, (ON, "0 1 0 0 0 0 0"), (wide(100.0, mode=2), "0 1 0 0 0 0 0"), "0 1 0 0 0 0 0"),
+        at(8, (OVER, "1 4 1 0 7000 600000 0"), (far, "1 5 1 1 11000 600000 0"), "1 5 1 1 11000 600000 0"),
+        # From 8 to 1,000: nothing kept, BLANK, and the runs stand.
+        at(1_000, (OVER, "1 1 1 0 0 0 0"), (far, "1 1 1 1 0 0 0"), "1 1 1 1 0 0 0"),
+        at(1_001, (OVER, "2 4 2 0 7000 600000 0"), (far, "2 5 2 2 11000 600000 0"), "2 5 2 2 11000 600000 0"),
+        # One number is left out. Conformance mode 1: OFF for unit 2, ahead of nothing kept; BLANK for its aggregate.
+        at(1_003, (OVER, "2 1 2 0 0 0 0"), (wide(111.0, mode=1), "0 0 0 0 0 0 0"), "2 1 2 2 0 0 0"),
+        at(1_000_000, (OVER, "2 1 2 0 0 0 0"), (far, "0 1 0 0 0 0 0"), "2 1 2 2 0 0 0"),
+        # Unit 2: the first mark since the OFF.
+        at(1_000_001, (OVER, "3 4 3 0 7000 600000 0"), (far, "1 5 1 1 11000 600000 0"), "3 5 3 3 11000 600000 0"),
+        at(3_000_000_000, (OVER, "3 1 3 0 0 0 0"), (far, "1 1 1 1 0 0 0"), "3 1 3 3 0 0 0"),
+        *reasons(None, None, None),
+        # Run 4 by 8, 1,001, 1,000,001 and this one.
+        at(3_000_000_001, (OVER, "4 4 0 0 7000 600000 107000"), (far, "2 5 2 2 11000 600000 0"), declared),
+        *reasons("small 8 3000000001", None, "large 8 3000000001"),
+        at(3_000_000_002, on_107, (over, "3 4 3 0 7000 600000 0"), "4 4 0 0 7000 600000 111000"),
+        # Unit 2: small run 4, large run 1.
+        at(3_000_000_003, on_107, (far, declared), declared),
+        *reasons("small 8 3000000001", "small 1000001 3000000003", "large 8 3000000001"),
+        # A jump while declared, and conformance mode 0.
+        at(last, (ON, "4 1 0 0 0 0 107000"), (wide(111.0, mode=0), "4 0 0 0 0 0 111000"), "4 0 0 0 0 0 111000"),
+        *reasons("small 8 3000000001", "small 1000001 3000000003", "large 8 3000000001"),
+        *reinstated(3),
+        at(last + 1, on_107, (far, declared), "1 5 1 1 11000 600000 0"),
+        # All modes 0: the jump gives OFF, which clears the aggregate's runs.
+        at(last + 100, (ON, "4 1 0 0 0 0 107000"), (wide(111.0, mode=0), "4 0 0 0 0 0 111000"), "0 0 0 0 0 0 0"),
+        at(last + 101, on_107, (far, declared), "1 5 1 1 11000 600000 0"),
+        at(last + 102, on_107, (far, declared), "2 5 2 2 11000 600000 0"),
+        at(last + 103, on_107, (far, declared), "3 5 3 3 11000 600000 0"),
+        at(last + 104, on_107, (far, declared), declared),
+        *reasons("small 8 3000000001", "small 1000001 3000000003", "large 4000000101 4000000104"),
+    ]
+
+
+def reason_backlog():
+    """Eight intervals in manual mode, then automatic mode. Six units in no chain; small run 2, 3, 6, large run 2, 3, 4.
+
+    In manual mode unit 1: CLEAR, SMALL x 7; 2 and 3: SMALL, LARGE x 7; 4 and 6: LARGE x 8; 5: LARGE, SMALL x 7.
+    """
+    def small(status, run):
+        return OVER, f"{status} 4 {run} 0 7000 600000 0"
+
+    def large(status, run, of_large):
+        return FAR, f"{status} 5 {run} {of_large} 11000 600000 0"
+
+    steps = [
+        (load(register((2, 3, 6, 2, 3, 4), [(GENERATING, 0)] * 6)), "load accepted 0"),
+        taken(100, MANUAL, *[(ON, "0 1 0 0 0 0 0")] * 6),
+        taken(101, MANUAL, (ON, "0 2 0 0 0 600000 0"), small(1, 1), small(1, 1), large(1, 1, 1), large(1, 1, 1), large(1, 1, 1)),
+        taken(102, MANUAL, small(1, 1), large(2, 2, 1), large(2, 2, 1), large(2, 2, 2), small(2, 2), large(2, 2, 2)),
+    ]
+    # Past Ps and Pl, Ds and Dl: manual mode shows 2.
+    for number in range(103, 109):
+        run = number - 100
+        steps.append(taken(number, MANUAL, small(2, run - 1), large(2, run, run - 1), large(2, run, run - 1), large(2, run, run),
+                          small(2, run), large(2, run, run)))
+    on_111, on_107 = (ON, "4 2 0 0 0 600000 111000"), (ON, "4 2 0 0 0 600000 107000")
+    declared = "4 5 0 0 11000 600000 111000"
+    return steps + [
+        *reasons(*[None] * 6),
+        # Unit 1: SMALL, runs 8 and 0. 2: LARGE, runs 9 and 8. 3: SMALL, which sets its large run to 0, runs 9 and 0. 4: BLANK in
+        # automatic mode declares nothing. 5: LARGE, runs 9 and 1. 6: CLEAR, and nothing is left of its backlog.
+        taken(109, AUTOMATIC, (OVER, "4 4 0 0 7000 600000 107000"), (FAR, declared), (OVER, "4 4 0 0 7000 600000 107000"),
+             (BAD_LINE, "3 1 8 8 0 0 0"), (FAR, declared), (ON, "0 2 0 0 0 600000 0")),
+        *reasons("small 102 109", "large 102 109", "small 101 109", None, "small 101 109", None),
+        # Unit 4: nor does DOUBT.
+        taken(110, AUTOMATIC, on_107, on_111, on_107, (UNSURE, "3 3 8 8 11000 600000 0"), on_111, large(1, 1, 1)),
+        # Nor does LARGE in manual mode.
+        taken(111, MANUAL, on_107, on_111, on_107, large(2, 9, 9), on_111, large(2, 2, 2)),
+        *reasons("small 102 109", "large 102 109", "small 101 109", None, "small 101 109", None),
+        # LARGE in automatic mode: runs 10 and 10.
+        taken(112, AUTOMATIC, on_107, on_111, on_107, (FAR, declared), on_111, large(3, 3, 3)),
+        # Unit 6: runs 4 and 4, the first mark in automatic mode, the second in manual mode.
+        taken(113, AUTOMATIC, on_107, on_111, on_107, on_111, on_111, (FAR, declared)),
+        *reasons("small 102 109", "large 102 109", "small 101 109", "large 101 112", "small 101 109", "large 110 113"),
+    ]
+
+
+def reason_past_255():
+    """Runs past 255 in manual mode: the stored run stops and its first mark is the true one. Both declaration lengths 255.
+
+    Six units in no chain. In manual mode, at 5001 to 5260, unit 1: SMALL; 2 and 3: SMALL three times, then LARGE; 4: CLEAR six
+    times, then LARGE; 5: CLEAR seven times, then LARGE; 6: LARGE, but SMALL at 5257.
+    """
+    def stored(run):
+        return min(run, 255)
+
+    def status(run):
+        return min(run, 2)  # 0, 1, then manual mode's 2
+
+    def small(run):
+        return OVER, f"{status(run)} 4 {stored(run)} 0 7000 600000 0"
+
+    def large(run, of_large):
+        return FAR, f"{status(run)} 5 {stored(run)} {stored(of_large)} 11000 600000 0"
+
+    on = ON, "0 2 0 0 0 600000 0"
+    steps = [
+        (load(register((2, 3, 255, 2, 3, 255), [(GENERATING, 0)] * 6)), "load accepted 0"),
+        taken(5000, MANUAL, *[(ON, "0 1 0 0 0 0 0")] * 6),
+    ]
+    for place in range(1, 261):
+        second = small(place) if place <= 3 else large(place, place - 3)
+        fourth = on if place <= 6 else large(place - 6, place - 6)
+        fifth = on if place <= 7 else large(place - 7, place - 7)
+        sixth = large(place, place) if place <= 256 else small(place) if place == 257 else large(place, place - 257)
+        steps.append(taken(5000 + place, MANUAL, small(place), second, second, fourth, fifth, sixth))
+    on_111, on_107 = (ON, "4 2 0 0 0 600000 111000"), (ON, "4 2 0 0 0 600000 107000")
+    declared = FAR, "4 5 0 0 11000 600000 111000"
+    return steps + [
+        *looks("2 255 0 0", "2 255 255 0", "2 255 255 0", "2 254 254 0", "2 253 253 0", "2 255 3 0"),
+        *reasons(*[None] * 6),
+        # Runs, had they not stopped: 261 and 0; 261 and 258; by SMALL 261 and 0; 255 and 255; 254 and 254, status 3; 261 and 4.
+        taken(5261, AUTOMATIC, (OVER, "4 4 0 0 7000 600000 107000"), declared, (OVER, "4 4 0 0 7000 600000 107000"), declared,
+             (FAR, "3 5 254 254 11000 600000 0"), declared),
+        *reasons("small 5001 5261", "large 5004 5261", "small 5001 5261", "large 5007 5261", None, "small 5001 5261"),
+        # Unit 5: 255 and 255.
+        taken(5262, AUTOMATIC, on_107, on_111, on_107, on_111, declared, on_111),
+        *reasons("small 5001 5261", "large 5004 5261", "small 5001 5261", "large 5007 5261", "large 5008 5262", "small 5001 5261"),
+    ]
+
+
+def reason_stays():
+    """Marks after the declaration, manual mode, jumps, looks and refused calls leave the reason. Unit 1 a chain of its own, point
+    3; unit 2 in no chain. Small run 2, 3, 5; large run 2, 3, 4."""
+    registered = register((2, 3, 5, 2, 3, 4), [(GENERATING, 0), (GENERATING, 0)], [1])
+    on, over, far = wide(100.0, mode=2), wide(107.0, mode=2), wide(111.0, mode=2)
+
+    def at(number, first, second, three, mode=AUTOMATIC):
+        return taken(number, mode, first, second, more=[three])
+
+    def small(status, run):
+        return f"{status} 4 {run} 0 7000 600000 0"
+
+    told = reasons("small 202 206", "large 201 204", "small 201 205")
+    looked = standing(107_000, 111_000, 107_000)
+    blank_107, clear_107 = "4 1 0 0 0 0 107000", "4 2 0 0 0 600000 107000"
+    small_107, large_107 = "4 4 0 0 7000 600000 107000", "4 5 0 0 11000 600000 107000"
+    on_111, far_111 = (ON, "4 2 0 0 0 600000 111000"), (FAR, "4 5 0 0 11000 600000 111000")
+    return [
+        (load(registered), "load accepted 1"),
+        at(200, (on, "0 1 0 0 0 0 0"), (ON, "0 1 0 0 0 0 0"), "0 1 0 0 0 0 0"),
+        # Conformance mode 1: unit 1 is OFF and its aggregate is not.
+        at(201, (wide(107.0, mode=1), "0 0 0 0 0 0 0"), (FAR, "1 5 1 1 11000 600000 0"), small(1, 1)),
+        at(202, (over, small(1, 1)), (FAR, "2 5 2 2 11000 600000 0"), small(2, 2)),
+        at(203, (over, small(2, 2)), (FAR, "3 5 3 3 11000 600000 0"), small(3, 3)),
+        # Unit 2: large run 4, small run 4.
+        at(204, (over, small(3, 3)), far_111, small(3, 4)),
+        *reasons(None, "large 201 204", None),
+        # The aggregate, then unit 1: small run 5.
+        at(205, (over, small(3, 4)), on_111, small_107),
+        *reasons(None, "large 201 204", "small 201 205"),
+        at(206, (over, small_107), on_111, small_107),
+        # Asked again and again, with looks between.
+        *told,
+        *told,
+        *looked,
+        *told,
+        *[step for pair in zip(told, looked, strict=True) for step in pair],
+        *looked,
+        # Five LARGE for unit 1, five SMALL for unit 2: as many as would declare by the other run. The event is still the first.
+        *[step for number in range(207, 212)
+          for step in (at(number, (far, large_107), (OVER, "4 4 0 0 7000 600000 111000"), large_107), *told, *looked)],
+        # OFF, and BLANK by quality 2.
+        at(212, (wide(111.0, mode=0), "4 0 0 0 0 0 107000"), (BAD_LINE, "4 1 0 0 0 0 111000"), "4 0 0 0 0 0 107000"),
+        *told,
+        # BLANK by a line that cannot be read, and DOUBT.
+        at(213, (wide(111.0, mode=2, quality=3), blank_107), (UNSURE, "4 3 0 0 11000 600000 111000"), blank_107),
+        *told,
+        # Nothing kept for unit 1; LARGE.
+        at(214, (on, blank_107), far_111, blank_107),
+        *told,
+        # CLEAR.
+        at(215, (on, clear_107), on_111, clear_107),
+        *told,
+        # A jump; manual mode; then LARGE in automatic mode, four times.
+        at(300, (far, blank_107), (FAR, "4 1 0 0 0 0 111000"), blank_107),
+        *told,
+        at(301, (far, large_107), far_111, large_107, mode=MANUAL),
+        *told,
+        *[at(number, (far, large_107), far_111, large_107) for number in range(302, 306)],
+        *told,
+        # Refused calls.
+        refused("declare", 22, declare(1, 0), declare(2, 0), declare(3, -1)),
+        refused("declare", 11, declare(1, -1), declare(3, 128_000_001)),
+        refused("interval", 21, given(interval(305, AUTOMATIC, far, FAR), 48)),
+        refused("interval", 8, given(interval(306, AUTOMATIC, far, FAR), 47)),
+        refused("interval", 9, given(interval(306, 2, far, FAR), 48)),
+        refused("reason", 10, reason(0), reason(4)),
+        *told,
+        *looked,
+        # A reinstatement ends the reason of its own point alone.
+        *reinstated(2),
+        *reasons("small 202 206", None, "small 201 205"),
+        *reinstated(3),
+        *reasons("small 202 206", None, None),
+        *reinstated(1),
+        *reasons(None, None, None),
+    ]
+
+
+def reason_reinstated():
+    """Declared, reinstated and declared again, by a run and by the operator in turn. Three units in no chain; small run 2, 3, 5,
+    large run 2, 3, 4."""
+    def small(status, run):
+        return OVER, f"{status} 4 {run} 0 7000 600000 0"
+
+    def large(status, run, of_large):
+        return FAR, f"{status} 5 {run} {of_large} 11000 600000 0"
+
+    def far(level):
+        return FAR, f"4 5 0 0 11000 600000 {level}"
+
+    def on(level):
+        return ON, f"4 2 0 0 0 600000 {level}"
+
+    def at(number, *units, mode=AUTOMATIC):
+        return taken(number, mode, *units)
+
+    return [
+        (load(register((2, 3, 5, 2, 3, 4), [(GENERATING, 0)] * 3)), "load accepted 0"),
+        at(900, *[(ON, "0 1 0 0 0 0 0")] * 3, mode=MANUAL),
+        at(901, large(1, 1, 1), large(1, 1, 1), small(1, 1), mode=MANUAL),
+        at(902, large(2, 2, 2), large(2, 2, 2), small(2, 2), mode=MANUAL),
+        at(903, large(2, 3, 3), large(2, 3, 3), small(2, 3), mode=MANUAL),
+        at(904, large(2, 4, 4), large(2, 4, 4), small(2, 4), mode=MANUAL),
+        at(905, large(2, 5, 5), large(2, 5, 5), small(2, 5), mode=MANUAL),
+        # Beyond both lengths in manual mode the status is 2, and the operator declares unit 2: no run did.
+        *reasons(None, None, None),
+        (declare(2, 60_000), "declare accepted"),
+        *reasons(None, "operator 0 0", None),
+        at(906, large(2, 6, 6), far(60_000), small(2, 6), mode=MANUAL),
+        *reasons(None, "operator 0 0", None),
+        # Unit 1: runs 7 and 7. Unit 3: 7 and 1. A LARGE that would have declared unit 2 leaves the operator.
+        at(907, far(111_000), far(60_000), far(111_000)),
+        *reasons("large 901 907", "operator 0 0", "small 901 907"),
+        at(908, far(111_000), far(60_000), far(111_000)),
+        at(909, far(111_000), far(60_000), far(111_000)),
+        at(910, far(111_000), far(60_000), far(111_000)),
+        *reasons("large 901 907", "operator 0 0", "small 901 907"),
+        refused("declare", 22, declare(1, 0), declare(2, 0), declare(3, 0)),
+        *reasons("large 901 907", "operator 0 0", "small 901 907"),
+        *reinstated(1),
+        *reasons(None, "operator 0 0", "small 901 907"),
+        *reinstated(2, 3),
+        *reasons(None, None, None),
+        refused("reinstate", 23, reinstate(1), reinstate(2), reinstate(3)),
+        *looks("0 0 0 0", "0 0 0 0", "0 0 0 0"),
+        # New runs: nothing is left of 901 or of the marks while declared.
+        at(911, large(1, 1, 1), large(1, 1, 1), large(1, 1, 1)),
+        *reasons(None, None, None),
+        at(912, large(2, 2, 2), large(2, 2, 2), large(2, 2, 2)),
+        # Unit 1, first declared by a run, now by the operator, at status 2.
+        (declare(1, 0), "declare accepted"),
+        *reasons("operator 0 0", None, None),
+        at(913, far(0), large(3, 3, 3), small(3, 3)),
+        # Unit 2, first declared by the operator, now by a run, 4 and 4.
+        at(914, far(0), far(111_000), large(3, 4, 1)),
+        *reasons("operator 0 0", "large 911 914", None),
+        # Unit 3 by the operator, at status 3. At 915 its small run would have been 5.
+        (declare(3, 7), "declare accepted"),
+        *reasons("operator 0 0", "large 911 914", "operator 0 0"),
+        at(915, far(0), on(111_000), far(7)),
+        *reasons("operator 0 0", "large 911 914", "operator 0 0"),
+        *reinstated(1, 2, 3),
+        *reasons(None, None, None),
+        # A third time, all by a run.
+        at(916, small(1, 1), small(1, 1), (ON, "0 2 0 0 0 600000 0")),
+        at(917, small(2, 2), large(2, 2, 1), (ON, "0 2 0 0 0 600000 0")),
+        at(918, small(3, 3), large(3, 3, 2), large(1, 1, 1)),
+        # A refused reinstatement or declaration moves no first mark.
+        refused("reinstate", 23, reinstate(1), reinstate(2), reinstate(3)),
+        refused("declare", 11, declare(1, -1), declare(2, 128_000_001)),
+        refused("declare", 22, declare(3, 0)),
+        at(919, small(3, 4), large(3, 4, 3), large(2, 2, 2)),
+        *reasons(None, None, None),
+        # Unit 1: runs 5 and 0. Unit 2: 5 and 4, both.
+        at(920, (OVER, "4 4 0 0 7000 600000 107000"), far(111_000), large(3, 3, 3)),
+        *reasons("small 916 920", "large 917 920", None),
+        at(921, on(107_000), on(111_000), far(111_000)),
+        *reasons("small 916 920", "large 917 920", "large 918 921"),
+    ]
+
+
+def reason_refused_calls():
+    """Refused calls before, between and after the marks are no part of a run, whatever number and lines an interval has."""
+    def at(number, text, sent_line=OVER):
+        return taken(number, AUTOMATIC, (sent_line, text))
+
+    def none_counted(last):
+        """Intervals that would be LARGE or on target, and other calls; `last` is the number of the last accepted."""
+        return [
+            refused("interval", 8, *[given(interval(number, AUTOMATIC, sent_line), 15) for number in (last + 1, last + 20)
+                                     for sent_line in (FAR, ON)]),
+            refused("interval", 8, given(interval(last + 1, AUTOMATIC, FAR, FAR), 16), given(b"", 16)),
+            refused("interval", 9, *[given(interval(number, 2, sent_line), 16) for number in (last + 1, last + 30)
+                                     for sent_line in (FAR, ON)]),
+            refused("interval", 21, *[given(interval(number, AUTOMATIC, sent_line), 16) for number in (last, last - 1, 0)
+                                      for sent_line in (FAR, ON)]),
+            refused("load", 1, load(b"")),
+            refused("load", 7, load(register(LENGTHS, [(GENERATING, 1)]))),
+            refused("declare", 10, declare(0, 0)),
+            refused("declare", 11, declare(1, -1)),
+            refused("reinstate", 10, reinstate(2)),
+            refused("look", 10, look(2)),
+            refused("reason", 10, reason(2)),
+        ]
+
+    return [
+        (load(ONE_UNIT), "load accepted 0"),
+        at(50, "0 1 0 0 0 0 0", ON),
+        *none_counted(50),
+        refused("reason", 36, reason(1)),
+        at(51, "1 4 1 0 7000 600000 0"),
+        *none_counted(51),
+        refused("declare", 22, declare(1, 0)),
+        refused("reinstate", 23, reinstate(1)),
+        refused("reason", 36, reason(1)),
+        at(52, "2 4 2 0 7000 600000 0"),
+        *none_counted(52),
+        refused("reinstate", 23, reinstate(1)),
+        refused("reason", 36, reason(1)),
+        at(53, "3 4 3 0 7000 600000 0"),
+        *none_counted(53),
+        refused("reinstate", 23, reinstate(1)),
+        refused("reason", 36, reason(1)),
+        # Small run 4 by 51 to 54.
+        at(54, "4 4 0 0 7000 600000 107000"),
+        (reason(1), "reason accepted small 51 54"),
+        *none_counted(54),
+        refused("declare", 22, declare(1, 0)),
+        (reason(1), "reason accepted small 51 54"),
+        (look(1), "look accepted 4 0 0 107000"),
+    ]
+
+
+def reason_refusals():
+    """20, then 10, then 36; loads. Chain 1 (its aggregate is point 3), unit 2 in no chain."""
+    registered = register(LENGTHS, [(GENERATING, 0), (GENERATING, 0)], [1])
+    beyond = [0, 4, 257, 258, 65_537, 2**31 + 1, 2**32 - 1]  # points: 0, n+m+1, and some whose low bytes are 1 or 2
+    ten = refused("reason", 10, *[reason(point) for point in beyond])
+    twenty = refused("reason", 20, *[reason(point) for point in (1, 2, 3, *beyond)])
+    small, large = wide(107.0, mode=2), FAR  # unit 1 is SMALL, unit 2 LARGE
+
+    def at(number, one, two, three):
+        return taken(number, AUTOMATIC, (small, one), (large, two), more=[three])
+
+    def run(number, status):
+        """Three marks bring the status to 1, 2 and 3."""
+        return at(number, f"{status} 4 {status} 0 7000 600000 0", f"{status} 5 {status} {status} 11000 600000 0",
+                  f"{status} 4 {status} 0 7000 600000 0")
+
+    none = "0 1 0 0 0 0 0"
+    told = reasons("small 31 34", "large 31 34", "operator 0 0")
+    return [
+        # 20 goes before 10 and 36; a refused load leaves no register.
+        twenty,
+        refused("load", 1, load(b""), load(registered[:-1])),
+        refused("load", 3, load(register((2, 3, 3, 2, 3, 4), [(GENERATING, 0)]))),
+        twenty,
+        (load(registered), "load accepted 1"),
+        # 10 goes before 36, and 36 at status 0.
+        ten,
+        *reasons(None, None, None),
+        at(30, none, none, none),
+        *reasons(None, None, None),
+        # Status 1, 2 and 3.
+        run(31, 1),
+        *reasons(None, None, None),
+        run(32, 2),
+        *reasons(None, None, None),
+        run(33, 3),
+        *reasons(None, None, None),
+        ten,
+        *looks("3 3 0 0", "3 3 3 0", "3 3 0 0"),
+        (declare(3, -5), "declare accepted"),
+        # Run 4 for units 1 and 2.
+        at(34, "4 4 0 0 7000 600000 107000", "4 5 0 0 11000 600000 111000", "4 4 0 0 7000 600000 -5"),
+        *told,
+        # 10 whatever is declared.
+        ten,
+        *told,
+        # A refused load keeps everything.
+        refused("load", 1, load(b""), load(registered[:-1])),
+        *told,
+        refused("load", 2, load(bytes(16))),
+        refused("load", 3, load(register((2, 3, 3, 2, 3, 4), [(GENERATING, 0)]))),
+        refused("load", 4, load(registered[:-1] + b"\1")),
+        refused("load", 5, load(register(LENGTHS, [(GENERATING, 0)], [2]))),
+        refused("load", 6, load(register(LENGTHS, [(GENERATING, 1)], [1]))),
+        refused("load", 7, load(register(LENGTHS, [(GENERATING, 1)]))),
+        refused("load", 30, load(register(LENGTHS, [(SEMI_SCHEDULED, 0)], [1]))),
+        *told,
+        *standing(107_000, 111_000, -5),
+        ten,
+        # An accepted load, the same bytes: nothing is declared.
+        (load(registered), "load accepted 1"),
+        *reasons(None, None, None),
+        *looks("0 0 0 0", "0 0 0 0", "0 0 0 0"),
+        ten,
+        # Nothing is kept, though 35 follows 34. Then new numbers.
+        at(35, none, none, none),
+        run(36, 1),
+        run(37, 2),
+        run(38, 3),
+        *reasons(None, None, None),
+        at(39, "4 4 0 0 7000 600000 107000", "4 5 0 0 11000 600000 111000", "4 4 0 0 7000 600000 107000"),
+        *reasons("small 36 39", "large 36 39", "small 36 39"),
+        # One unit: points 2 and 3 are beyond.
+        (load(ONE_UNIT), "load accepted 0"),
+        *reasons(None),
+        refused("reason", 10, reason(2), reason(3)),
+        # A load in the midst of a run: its marks count no more. The numbers begin below those of before.
+        taken(1, AUTOMATIC, (ON, none)),
+        taken(2, AUTOMATIC, (FAR, "1 5 1 1 11000 600000 0")),
+        taken(3, AUTOMATIC, (FAR, "2 5 2 2 11000 600000 0")),
+        taken(4, AUTOMATIC, (FAR, "3 5 3 3 11000 600000 0")),
+        (load(ONE_UNIT), "load accepted 0"),
+        *reasons(None),
+        taken(5, AUTOMATIC, (FAR, none)),
+        taken(6, AUTOMATIC, (OVER, "1 4 1 0 7000 600000 0")),
+        taken(7, AUTOMATIC, (FAR, "2 5 2 1 11000 600000 0")),
+        taken(8, AUTOMATIC, (FAR, "3 5 3 2 11000 600000 0")),
+        taken(9, AUTOMATIC, (FAR, "4 5 0 0 11000 600000 111000")),
+        *reasons("small 6 9"),
+        # A unit declared, then a plant in which that number is an aggregate's.
+        (load(register(LENGTHS, [(GENERATING, 0)], [1])), "load accepted 1"),
+        *reasons(None, None),
+        refused("reason", 10, reason(3)),
+    ]
+
+
+def reason_of_aggregate():
+    """An aggregate's reason is that of its own marks. Chain 1 -> 2 (generating unit, load) is point 3.
+
+    Targets are 100,000 and 40,000, the aggregate's 60,000, and its error is unit 1's less unit 2's. MWO max(200,000, 200,000), ROC
+    max(9,000, 9,000): triggers as `wide` says for all three.
+    """
+    def at(number, first, second, *texts, **changes):
+        lines = wide(first, mode=2), wide(second, mwb=40_000, mode=2, **changes)
+        return accepted(interval(number, AUTOMATIC, *lines), *numbered(number, texts))
+
+    return [
+        (load(register(LENGTHS, [(GENERATING, 2), (LOAD, 0)], [1])), "load accepted 2"),
+        at(60, 100.0, 40.0, "0 1 0 0 0 0 0", "0 1 0 0 0 0 0", "0 1 0 0 0 0 0"),
+        # 5,000 and -6,000 are CLEAR, 11,000 is LARGE.
+        at(61, 105.0, 34.0, "0 2 0 0 5000 600000 0", "0 2 0 0 -6000 600000 0", "1 5 1 1 11000 600000 0"),
+        at(62, 107.0, 34.0, "1 4 1 0 7000 600000 0", "0 2 0 0 -6000 600000 0", "2 5 2 2 13000 600000 0"),
+        at(63, 107.0, 33.0, "2 4 2 0 7000 600000 0", "1 4 1 0 -7000 600000 0", "3 5 3 3 14000 600000 0"),
+        # The aggregate: runs 4 and 4, at 107,000 - 33,000.
+        at(64, 107.0, 33.0, "3 4 3 0 7000 600000 0", "2 4 2 0 -7000 600000 0", "4 5 0 0 14000 600000 74000"),
+        *reasons(None, None, "large 61 64"),
+        # 11,000 each: the aggregate is on target. Unit 1: runs 4 and 1.
+        at(65, 111.0, 51.0, "4 5 0 0 11000 600000 111000", "3 5 3 1 11000 600000 0", "4 2 0 0 0 600000 74000"),
+        *reasons("small 62 65", None, "large 61 64"),
+        # Unit 2: runs 4 and 0.
+        at(66, 100.0, 33.0, "4 2 0 0 0 600000 111000", "4 4 0 0 -7000 600000 33000", "4 4 0 0 7000 600000 74000"),
+        *reasons("small 62 65", "small 63 66", "large 61 64"),
+        *reinstated(3),
+        *reasons("small 62 65", "small 63 66", None),
+        # 5,000 and -5,000 are CLEAR; 10,000 is SMALL, as 1,000,000 does not exceed the large trigger.
+        at(67, 105.0, 35.0, "4 2 0 0 5000 600000 111000", "4 2 0 0 -5000 600000 33000", "1 4 1 0 10000 600000 0"),
+        *reinstated(1),
+        *reasons(None, "small 63 66", None),
+        # Unit 2 cannot be read, then has nothing kept: BLANK for it and for the aggregate. Unit 1 counts on.
+        at(68, 107.0, 35.0, "1 4 1 0 7000 600000 0", "4 1 0 0 0 0 33000", "1 1 1 0 0 0 0", quality=3),
+        at(69, 107.0, 35.0, "2 4 2 0 7000 600000 0", "4 1 0 0 0 0 33000", "1 1 1 0 0 0 0"),
+        # 12,000: LARGE.
+        at(70, 107.0, 35.0, "3 4 3 0 7000 600000 0", "4 2 0 0 -5000 600000 33000", "2 5 2 1 12000 600000 0"),
+        # The operator declares unit 1, and the aggregate goes on.
+        (declare(1, 5), "declare accepted"),
+        *reasons("operator 0 0", "small 63 66", None),
+        at(71, 105.0, 35.0, "4 2 0 0 5000 600000 5", "4 2 0 0 -5000 600000 33000", "3 4 3 0 10000 600000 0"),
+        # Runs 4 and 0 by 67, 70, 71 and 72, at 105,000 - 35,000.
+        at(72, 105.0, 35.0, "4 2 0 0 5000 600000 5", "4 2 0 0 -5000 600000 33000", "4 4 0 0 10000 600000 70000"),
+        *reasons("operator 0 0", "small 63 66", "small 67 72"),
+        # Reinstated, and declared by the operator.
+        *reinstated(3),
+        at(73, 105.0, 35.0, "4 2 0 0 5000 600000 5", "4 2 0 0 -5000 600000 33000", "1 4 1 0 10000 600000 0"),
+        at(74, 105.0, 35.0, "4 2 0 0 5000 600000 5", "4 2 0 0 -5000 600000 33000", "2 4 2 0 10000 600000 0"),
+        *reasons("operator 0 0", "small 63 66", None),
+        (declare(3, -70_000), "declare accepted"),
+        *reasons("operator 0 0", "small 63 66", "operator 0 0"),
+        # Reinstating the members leaves the aggregate's reason.
+        *reinstated(1, 2),
+        *reasons(None, None, "operator 0 0"),
+    ]
+
+
+def reason_numbers():
+    """Numbers at the ends and across 2^31. Interval 0 is a first one, with nothing kept, so no run has it as its first mark: the
+    least is 1. Unit 1 is SMALL, unit 2 LARGE."""
+    def at(number, one, two):
+        return taken(number, AUTOMATIC, (OVER, one), (FAR, two))
+
+    def run(number, status):
+        return at(number, f"{status} 4 {status} 0 7000 600000 0", f"{status} 5 {status} {status} 11000 600000 0")
+
+    def declared(number):
+        return at(number, "4 4 0 0 7000 600000 107000", "4 5 0 0 11000 600000 111000")
+
+    def blank(number, status):
+        return at(number, f"{status} 1 {status} 0 0 0 0", f"{status} 1 {status} {status} 0 0 0")
+
+    def after_the_last():
+        return refused("interval", 21, *[given(interval(number, AUTOMATIC, ON, ON), 32) for number in (0, 1, 2**32 - 1)])
+
+    none = "0 1 0 0 0 0 0"
+    return [
+        (load(TWO_UNITS), "load accepted 0"),
+        at(0, none, none),
+        run(1, 1),
+        run(2, 2),
+        run(3, 3),
+        declared(4),
+        *reasons("small 1 4", "large 1 4"),
+        # The least first mark and the greatest last one: 1 and then, after a jump, 4294967292, 4294967293 and 4294967295.
+        (load(TWO_UNITS), "load accepted 0"),
+        at(0, none, none),
+        run(1, 1),
+        blank(4_294_967_291, 1),
+        run(4_294_967_292, 2),
+        run(4_294_967_293, 3),
+        taken(4_294_967_294, AUTOMATIC, (BAD_LINE, "3 1 3 0 0 0 0"), (UNSURE, "3 3 3 3 11000 600000 0")),
+        *reasons(None, None),
+        declared(4_294_967_295),
+        *reasons("small 1 4294967295", "large 1 4294967295"),
+        after_the_last(),
+        *reasons("small 1 4294967295", "large 1 4294967295"),
+        *reinstated(1),
+        *reasons(None, "large 1 4294967295"),
+        # The greatest first mark.
+        (load(TWO_UNITS), "load accepted 0"),
+        at(4_294_967_291, none, none),
+        run(4_294_967_292, 1),
+        run(4_294_967_293, 2),
+        run(4_294_967_294, 3),
+        declared(4_294_967_295),
+        *reasons("small 4294967292 4294967295", "large 4294967292 4294967295"),
+        after_the_last(),
+        *reasons("small 4294967292 4294967295", "large 4294967292 4294967295"),
+        # Across 2,147,483,648.
+        (load(TWO_UNITS), "load accepted 0"),
+        at(2_147_483_645, none, none),
+        run(2_147_483_646, 1),
+        run(2_147_483_647, 2),
+        run(2_147_483_648, 3),
+        declared(2_147_483_649),
+        *reasons("small 2147483646 2147483649", "large 2147483646 2147483649"),
+    ]
+
+
+def reason_plant():
+    """64 units and 16 aggregates: units 49 to 64 are each a chain of its own, 64 as point 65 down to 49 as point 80.
+
+    A unit's first mark is at 11, and later by as much as its number leaves when divided by 5. It is LARGE where 3 divides its
+    number, SMALL otherwise, and so is its aggregate. Run 4 is three intervals later.
+    """
+    unit_of = [*range(1, 65), *range(64, 48, -1)]  # the unit that a point is or has
+
+    def first(unit):
+        return 11 + unit % 5
+
+    def sent_by(unit, number):
+        mw = 100.0 if number < first(unit) else 111.0 if unit % 3 == 0 else 107.0
+        return wide(mw, mode=2 if unit > 48 else 0)
+
+    def text(unit, number):
+        run = number - first(unit) + 1
+        if number == 10:
+            return "0 1 0 0 0 0 0"  # nothing kept
+        if run < 1:
+            return "0 2 0 0 0 600000 0"
+        if unit % 3 == 0:
+            return f"{run} 5 {run} {run} 11000 600000 0" if run < 4 else "4 5 0 0 11000 600000 111000"
+        return f"{run} 4 {run} 0 7000 600000 0" if run < 4 else "4 4 0 0 7000 600000 107000"
+
+    def at(number):
+        return accepted(interval(number, AUTOMATIC, *[sent_by(unit, number) for unit in range(1, 65)]),
+                        *numbered(number, [text(unit, number) for unit in unit_of]))
+
+    def told(unit):
+        return f"{'small' if unit % 3 else 'large'} {first(unit)} {first(unit) + 3}"
+
+    units = [(GENERATING, 0)] * 64
+    return [
+        (load(register(LENGTHS, units, range(64, 48, -1))), "load accepted 16"),
+        *[at(number) for number in range(10, 17)],
+        # Those whose first mark was at 11, 12 or 13.
+        *reasons(*[told(unit) if unit % 5 <= 2 else None for unit in unit_of]),
+        at(17),
+        at(18),
+        *reasons(*[told(unit) for unit in unit_of]),
+        refused("reason", 10, reason(0), reason(81), reason(257), reason(2**32 - 1)),
+        # Every second point is reinstated; the reasons of the others stand.
+        *reinstated(*range(2, 81, 2)),
+        *reasons(*[told(unit) if point % 2 else None for point, unit in enumerate(unit_of, 1)]),
+    ]
+
+
 # ---- two lists that are alike for one group
 
 
@@ -1567,6 +2467,143 @@ def alike_levels_2():
     )
 
 
+def alike_reasons(others, between):
+    """Chain 1 -> 3 (generating unit, load) with its aggregate, point 5, is the group. Outside of it: generating unit 2 and
+    semi-scheduled unit 4, in no chain. Small run 2, 3, 5; large run 2, 3, 4.
+
+    others: for the interval of each number the lines of units 2 and 4, and what is printed of them; between: operator calls outside
+    the group after the interval of that number. Gives the steps as `alike` does.
+    """
+    registered = register((2, 3, 5, 2, 3, 4), [(GENERATING, 3), (GENERATING, 0), (LOAD, 0), (SEMI_SCHEDULED, 0)], [1])
+    steps = [(True, load(registered), "load accepted 2")]
+
+    # Targets, errors and triggers of the group are those of `reason_of_aggregate`.
+    def buffer_of(number, mode, one, three, lines):
+        two, four = lines
+        return interval(number, mode, wide(one, mode=2), two, wide(three, mwb=40_000, mode=2), four)
+
+    def at(number, mode, one, three, *ours):
+        lines, theirs = others[number]
+        texts = ours[0], theirs[0], ours[1], theirs[1], ours[2]
+        steps.append((True, given(buffer_of(number, mode, one, three, lines), 80), "interval accepted"))
+        steps.extend((point % 2 == 1, b"", f"{number} {point} {text}") for point, text in enumerate(texts, 1))
+        steps.extend((False, *step) for step in between.get(number, []))
+
+    def named(sent, text):
+        steps.append((True, sent, text))
+
+    def told(*answers):
+        """The reasons of points 1, 3 and 5."""
+        for point, answer in zip((1, 3, 5), answers, strict=True):
+            named(reason(point), f"reason {answer}")
+
+    at(1, MANUAL, 100.0, 40.0, "0 1 0 0 0 0 0", "0 1 0 0 0 0 0", "0 1 0 0 0 0 0")  # nothing kept
+    told("refused 36", "refused 36", "refused 36")
+    at(2, MANUAL, 107.0, 40.0, "1 4 1 0 7000 600000 0", "0 2 0 0 0 600000 0", "1 4 1 0 7000 600000 0")
+    at(3, MANUAL, 107.0, 33.0, "2 4 2 0 7000 600000 0", "1 4 1 0 -7000 600000 0", "2 5 2 1 14000 600000 0")
+    told("refused 36", "refused 36", "refused 36")
+    at(4, MANUAL, 111.0, 33.0, "2 5 3 1 11000 600000 0", "2 4 2 0 -7000 600000 0", "2 5 3 2 18000 600000 0")
+    named(declare(3, 33_000), "declare accepted")
+    told("refused 36", "accepted operator 0 0", "refused 36")
+    at(5, MANUAL, 111.0, 33.0, "2 5 4 2 11000 600000 0", "4 4 0 0 -7000 600000 33000", "2 5 4 3 18000 600000 0")
+    # Point 1: runs 5 and 3. Point 5: 5 and 4, both, at 111,000 - 33,000.
+    at(6, AUTOMATIC, 111.0, 33.0, "4 5 0 0 11000 600000 111000", "4 4 0 0 -7000 600000 33000", "4 5 0 0 18000 600000 78000")
+    told("accepted small 2 6", "accepted operator 0 0", "accepted large 3 6")
+    # Refused in both lists: the number of the last accepted, then a report one record short.
+    for number, report, refusal in ((6, 80, 21), (7, 64, 8)):
+        buffer = buffer_of(number, AUTOMATIC, 100.0, 40.0, others[6][0])
+        steps.append((True, given(buffer, report), f"interval refused {refusal}"))
+    told("accepted small 2 6", "accepted operator 0 0", "accepted large 3 6")
+    named(reinstate(1), "reinstate accepted")
+    named(reinstate(3), "reinstate accepted")
+    told("refused 36", "refused 36", "accepted large 3 6")
+    # A jump: BLANK.
+    at(10, AUTOMATIC, 111.0, 29.0, "0 1 0 0 0 0 0", "0 1 0 0 0 0 0", "4 1 0 0 0 0 78000")
+    # 11,000, -11,000 and 22,000: LARGE.
+    at(11, AUTOMATIC, 111.0, 29.0, "1 5 1 1 11000 600000 0", "1 5 1 1 -11000 600000 0", "4 5 0 0 22000 600000 78000")
+    named(reinstate(5), "reinstate accepted")
+    told("refused 36", "refused 36", "refused 36")
+    at(12, AUTOMATIC, 111.0, 29.0, "2 5 2 2 11000 600000 0", "2 5 2 2 -11000 600000 0", "1 5 1 1 22000 600000 0")
+    at(13, AUTOMATIC, 111.0, 29.0, "3 5 3 3 11000 600000 0", "3 5 3 3 -11000 600000 0", "2 5 2 2 22000 600000 0")
+    # Points 1 and 3: runs 4 and 4.
+    at(14, AUTOMATIC, 111.0, 29.0, "4 5 0 0 11000 600000 111000", "4 5 0 0 -11000 600000 29000", "3 5 3 3 22000 600000 0")
+    told("accepted large 11 14", "accepted large 11 14", "refused 36")
+    # Point 5: the same, at 111,000 - 29,000.
+    at(15, AUTOMATIC, 111.0, 29.0, "4 5 0 0 11000 600000 111000", "4 5 0 0 -11000 600000 29000", "4 5 0 0 22000 600000 82000")
+    told("accepted large 11 14", "accepted large 11 14", "accepted large 12 15")
+    return steps
+
+
+def alike_reasons_1():
+    """Units 2 and 4 are declared by runs and by the operator, reinstated and declared again; their reasons are asked."""
+    # Unit 2 is LARGE. Unit 4 is SMALL with a kept flag of 1.
+    far, over = FAR, wide(107.0, cap=1)
+
+    def large(status, run):
+        return f"{status} 5 {run} {run} 11000 600000 0"
+
+    def small(status, run):
+        return f"{status} 4 {run} 0 7000 600000 0"
+
+    printed = {
+        1: ("0 1 0 0 0 0 0", "0 1 0 0 0 0 0"),
+        2: (large(1, 1), small(1, 1)),
+        3: (large(2, 2), small(2, 2)),
+        4: (large(2, 3), "4 4 0 0 7000 600000 9"),  # unit 4 was declared after 3
+        5: (large(2, 4), "4 4 0 0 7000 600000 9"),
+        6: ("4 5 0 0 11000 600000 111000", "4 4 0 0 7000 600000 9"),  # unit 2: runs 5 and 5 in automatic mode
+        10: ("4 1 0 0 0 0 111000", "0 1 0 0 0 0 0"),  # unit 4 was reinstated after 6
+        11: ("4 5 0 0 11000 600000 111000", small(1, 1)),
+        12: (large(1, 1), small(2, 2)),  # unit 2 was reinstated after 11
+        13: (large(2, 2), small(3, 3)),
+        14: (large(3, 3), small(3, 4)),
+        15: ("4 5 0 0 11000 600000 111000", "4 4 0 0 7000 600000 107000"),  # runs 4 and 4; runs 5 and 0
+    }
+    return alike_reasons(
+        {number: ((far, over), texts) for number, texts in printed.items()},
+        {
+            1: [refused("reason", 36, reason(2), reason(4)), refused("reason", 10, reason(0), reason(6))],
+            3: [
+                refused("reason", 36, reason(2), reason(4)),
+                (declare(4, 9), "declare accepted"),
+                (reason(4), "reason accepted operator 0 0"),
+            ],
+            5: [refused("reason", 36, reason(2)), (reason(4), "reason accepted operator 0 0")],
+            6: [
+                (reason(2), "reason accepted large 2 6"),
+                (reason(4), "reason accepted operator 0 0"),
+                (reinstate(4), "reinstate accepted"),
+                refused("reason", 36, reason(4)),
+            ],
+            10: [(reason(2), "reason accepted large 2 6"), (reason(2), "reason accepted large 2 6")],
+            11: [
+                (reason(2), "reason accepted large 2 6"),
+                (reinstate(2), "reinstate accepted"),
+                refused("reason", 36, reason(2), reason(4)),
+            ],
+            15: [(reason(2), "reason accepted large 12 15"), (reason(4), "reason accepted small 11 15")],
+        },
+    )
+
+
+def alike_reasons_2():
+    """Unit 2 cannot be read and unit 4 is off; their reasons are asked at other places, and those of no point."""
+    # BLANK always. OFF by the kept flag of 0, but BLANK where nothing is kept: at the first interval and after the jump.
+    lines = UNREADABLE, wide(111.0, cap=0)
+    none, off = "0 1 0 0 0 0 0", "0 0 0 0 0 0 0"
+    return alike_reasons(
+        {number: (lines, (none, none if number in (1, 10) else off)) for number in (1, 2, 3, 4, 5, 6, 10, 11, 12, 13, 14, 15)},
+        {
+            2: [refused("reason", 36, reason(4), reason(2), reason(4))],
+            3: [refused("reason", 36, reason(4)), refused("declare", 22, declare(4, 9))],
+            4: [refused("reason", 10, reason(2**32 - 1), reason(257))],
+            6: [refused("reason", 36, reason(2)), refused("reinstate", 23, reinstate(4))],
+            12: [refused("reason", 10, reason(0)), (look(2), "look accepted 0 0 0 0")],
+            14: [refused("reason", 36, reason(2), reason(4)), refused("reason", 10, reason(6))],
+        },
+    )
+
+
 # ---- script errors
 
 
@@ -1593,11 +2630,13 @@ SCRIPT_ERRORS = {
     "script_short_length": cut_short(look(1)[:7]),
     "script_no_payload": cut_short(look(1)[:8]),
     "script_short_payload": cut_short(look(1)[:11]),
+    "script_short_reason": cut_short(reason(1)[:11]),
     "script_short_interval": cut_short(given(interval(1, AUTOMATIC, plain(100.0)), 16)[:-1]),
-    # Tags that no call has; the third has the low byte of a look.
+    # Tags that no call has; the last two have the low byte of a look and of a reason.
     "script_tag_0": script_error(call(0, bytes(4))),
-    "script_tag_6": script_error(call(6, bytes(4))),
+    "script_tag_7": script_error(call(7, bytes(4))),
     "script_tag_261": script_error(call(261, bytes([1, 0, 0, 0]))),
+    "script_tag_262": script_error(call(262, bytes([1, 0, 0, 0]))),
     # Payloads of another size.
     "script_declare_4": script_error(call(3, bytes([1, 0, 0, 0]))),
     "script_declare_9": script_error(call(3, bytes(9))),
@@ -1605,6 +2644,10 @@ SCRIPT_ERRORS = {
     "script_reinstate_8": script_error(call(4, bytes(8))),
     "script_look_0": script_error(call(5, b"")),
     "script_look_5": script_error(call(5, bytes([1, 0, 0, 0, 0]))),
+    "script_reason_0": script_error(call(6, b"")),
+    "script_reason_3": script_error(call(6, bytes([1, 0, 0]))),
+    "script_reason_5": script_error(call(6, bytes([1, 0, 0, 0, 0]))),
+    "script_reason_8": script_error(call(6, bytes([1, 0, 0, 0, 0, 0, 0, 0]))),
     # A payload over 8,192 bytes, all there; and a length that no file has.
     "script_load_8193": script_error(call(1, bytes(8_193))),
     "script_interval_8193": script_error(call(2, bytes(8_193))),
@@ -1626,8 +2669,10 @@ SCRIPT_ERRORS = {
 
 LISTS = [every_status, operator_declaration, refusals_without_register, refusals_with_register, backlog, load_again, jump,
          last_number, full_plant, limits, solar, solar_plant, levels, levels_in_chains, levels_of_one, operator_levels,
-         levels_load_again, levels_plant]
-ALIKE = [(alike_1, alike_2), (alike_solar_1, alike_solar_2), (alike_levels_1, alike_levels_2)]
+         levels_load_again, levels_plant, each_reason, every_status_asked, reason_both_runs, reason_manual_runs,
+         reason_small_in_midst, reason_blank_and_doubt, reason_off_and_clear, reason_jump, reason_backlog, reason_past_255,
+         reason_stays, reason_reinstated, reason_refused_calls, reason_refusals, reason_of_aggregate, reason_numbers, reason_plant]
+ALIKE = [(alike_1, alike_2), (alike_solar_1, alike_solar_2), (alike_levels_1, alike_levels_2), (alike_reasons_1, alike_reasons_2)]
 # What `rt ci` runs the program on.
 CRATE_LIST = "every_status"
 

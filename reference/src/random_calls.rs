@@ -11,6 +11,8 @@ use crate::replay::Script;
 /// A list ends when it has grown to this many bytes.
 const LONGEST: usize = 160_000;
 const LIMIT: i64 = 2_000_000;
+/// So many interval numbers are near the last there is.
+const LAST_NUMBERS: u32 = 24;
 /// Bounds of an operator's level, and beside them.
 const LEVELS: [i32; 9] = [i32::MIN, -128_000_001, -128_000_000, -1, 0, 1, 128_000_000, 128_000_001, i32::MAX];
 
@@ -59,6 +61,8 @@ enum Course {
     OnTarget,
     Small,
     Large,
+    /// By turns small and large, more often large.
+    Wavering,
     /// On one side or the other of a trigger, or exactly at it.
     Edge,
     /// Out of service: around 0, whatever the targets.
@@ -67,14 +71,14 @@ enum Course {
 
 /// Courses away from target, the likelier ones more than once.
 fn courses_away(stubborn: bool, semi_scheduled: bool) -> &'static [Course] {
-    use Course::{Edge, Large, Small, Tripped};
+    use Course::{Edge, Large, Small, Tripped, Wavering};
     if stubborn {
         &[Small, Large]
     } else if semi_scheduled {
         // Tripped it is CLEAR.
-        &[Small, Small, Large, Large, Edge, Tripped]
+        &[Small, Small, Large, Large, Wavering, Wavering, Edge, Tripped]
     } else {
-        &[Small, Small, Large, Large, Edge, Tripped, Tripped]
+        &[Small, Small, Large, Large, Wavering, Wavering, Edge, Tripped, Tripped]
     }
 }
 
@@ -187,6 +191,15 @@ enum Modes {
     Mixed,
 }
 
+/// What befalls a whole interval, so that no mark of it counts in a run.
+#[derive(Clone, Copy, PartialEq, Eq)]
+enum Trouble {
+    /// The number jumps.
+    Jump,
+    /// All lines have this quality.
+    Quality(u8),
+}
+
 struct Author {
     random: Random,
     script: Script,
@@ -195,6 +208,8 @@ struct Author {
     number: Option<u32>,
     modes: Modes,
     manual_now: bool,
+    /// Of the next interval.
+    trouble: Option<Trouble>,
     /// Damaged lines and bad telemetry, of a thousand lines of a small plant.
     noise: u64,
     /// Operator calls, of a thousand steps.
@@ -216,6 +231,7 @@ impl Author {
             number: None,
             modes,
             manual_now: modes == Modes::Manual,
+            trouble: None,
             noise,
             operators,
             stubborn: false,
@@ -223,12 +239,12 @@ impl Author {
     }
 
     fn write(mut self) -> Vec<u8> {
-        if self.random.chance(150) {
+        if self.random.chance(180) {
             for _ in 0..self.random.within(1, 4) {
                 self.call_without_register();
             }
         }
-        if self.random.chance(80) {
+        if self.random.chance(100) {
             self.long_run();
         } else {
             let steps = match self.random.below(10) {
@@ -239,14 +255,17 @@ impl Author {
             self.first_loads();
             self.steps(steps);
         }
-        if self.random.chance(80) {
+        if self.random.chance(300) {
+            self.ask_reasons();
+        }
+        if self.random.chance(250) {
             self.script_error();
         }
         self.script.into_bytes()
     }
 
     fn call_without_register(&mut self) {
-        match self.random.below(5) {
+        match self.random.below(6) {
             0 => {
                 let register = self.damaged_register();
                 if Plant::load(&register).is_err() {
@@ -260,7 +279,8 @@ impl Author {
             }
             2 => self.script.declare(self.random.below(3) as u32, self.random.pick(&LEVELS)),
             3 => self.script.reinstate(0),
-            _ => self.script.look(1),
+            4 => self.script.look(1),
+            _ => self.script.reason(self.random.pick(&[0, 0, 1, 2])),
         }
     }
 
@@ -287,10 +307,26 @@ impl Author {
                 }
             } else if self.random.chance(self.operators) {
                 self.operator_calls();
+            } else if self.modes == Modes::Mixed && self.manual_now && self.random.chance(60) {
+                self.hand_over();
             } else {
                 self.interval();
             }
+            if self.random.chance(if spent { 250 } else { 60 }) {
+                self.ask_reasons();
+            }
         }
+    }
+
+    /// From manual to automatic mode: a backlog waits, as no mark of the first interval counts, and then declares.
+    fn hand_over(&mut self) {
+        self.manual_now = false;
+        let troubles = [Trouble::Jump, Trouble::Quality(1), Trouble::Quality(1), Trouble::Quality(2)];
+        self.trouble = Some(self.random.pick(&troubles));
+        self.interval();
+        self.ask_reasons();
+        self.interval();
+        self.ask_reasons();
     }
 
     /// Runs that pass 255 in manual mode, then often a backlog that declares in automatic mode.
@@ -311,6 +347,9 @@ impl Author {
         }
         self.operator_calls();
         self.modes = Modes::Mixed;
+        if self.random.chance(950) {
+            self.hand_over();
+        }
         self.stubborn = false;
         self.operators = 300;
         let steps = self.random.within(0, 40);
@@ -531,7 +570,15 @@ impl Author {
         if self.modes == Modes::Mixed && self.random.chance(120) {
             self.manual_now = !self.manual_now;
         }
-        let (number, rising) = self.next_number(long_run);
+        let (mut number, rising) = self.next_number(long_run);
+        let trouble = self.trouble.take();
+        if rising && trouble == Some(Trouble::Jump) {
+            number = number.saturating_add(1);
+        }
+        // Manual mode up to the last number there is, where a backlog declares.
+        if self.modes == Modes::Mixed && number > u32::MAX - LAST_NUMBERS {
+            self.manual_now = number < u32::MAX;
+        }
         let mut accepted = rising;
         let mut buffer = number.to_le_bytes().to_vec();
         buffer.extend([u8::from(!self.manual_now), 0, 0, 0]);
@@ -550,6 +597,9 @@ impl Author {
         let mut drafts = vec![None; sketch.units.len()];
         for index in 0..sketch.groups.len() {
             self.draft_group(&mut sketch, index, &mut drafts);
+        }
+        if let Some(Trouble::Quality(quality)) = trouble {
+            drafts.iter_mut().flatten().for_each(|draft| draft.quality = quality);
         }
         let in_chains: usize =
             sketch.groups.iter().filter(|group| group.aggregate.is_some()).map(|group| group.units.len()).sum();
@@ -609,11 +659,11 @@ impl Author {
     fn next_number(&mut self, long_run: bool) -> (u32, bool) {
         let random = &mut self.random;
         let Some(last) = self.number else {
-            let first = match random.below(12) {
-                0 => 0,
-                1 => 1,
-                2 => u32::MAX - random.below(60) as u32,
-                3 => random.next() as u32,
+            let first = match random.below(15) {
+                0 | 1 => 0,
+                2 => 1,
+                3..=5 => u32::MAX - random.within(0, i64::from(LAST_NUMBERS)) as u32,
+                6 => random.next() as u32,
                 _ => random.below(1_000) as u32,
             };
             return (first, true);
@@ -646,6 +696,8 @@ impl Author {
             group.upward = random.chance(if semi_scheduled { 700 } else { 500 });
             group.left = match group.course {
                 Course::OnTarget => random.within(1, 4) as u32,
+                // The large run often begins later than the small one, both early enough to pass 255.
+                _ if self.stubborn && random.chance(400) => random.within(1, 50) as u32,
                 _ if self.stubborn => random.within(250, 900) as u32,
                 _ => random.within(1, 9) as u32,
             };
@@ -659,10 +711,14 @@ impl Author {
         let member = group.aggregate.is_some();
         let odd = 1 + 40 / group.units.len() as u64;
         let odd = if self.stubborn { odd / 8 } else { odd };
+        let course = match group.course {
+            Course::Wavering => random.pick(&[Course::Small, Course::Large, Course::Large]),
+            course => course,
+        };
         // The whole aggregate off for one interval.
         let all_off = member && !self.stubborn && random.chance(25);
         for &unit in &group.units {
-            let mut draft = draft_unit(random, &mut units[unit], group.course, group.upward, self.stubborn);
+            let mut draft = draft_unit(random, &mut units[unit], course, group.upward, self.stubborn);
             if member {
                 draft.mode = 2;
                 if all_off {
@@ -681,10 +737,12 @@ impl Author {
         if !member {
             return;
         }
-        match group.course {
+        match course {
             Course::OnTarget => {}
             Course::Tripped => trip_aggregate(random, units, group, drafts),
-            _ if self.stubborn || random.chance(600) => tune_aggregate(random, units, group, drafts, self.stubborn),
+            _ if self.stubborn || random.chance(600) => {
+                tune_aggregate(random, units, group, course, drafts, self.stubborn);
+            }
             _ => {}
         }
     }
@@ -748,8 +806,26 @@ impl Author {
 
     // Operator calls.
 
+    /// Points of the plant.
+    fn points(&self) -> u32 {
+        self.sketch.as_ref().map_or(1, |sketch| sketch.units.len() + sketch.aggregates) as u32
+    }
+
+    /// What declared each point, or some points of a larger plant. Most calls meet a point that is not declared.
+    fn ask_reasons(&mut self) {
+        if self.sketch.is_none() {
+            self.script.reason(self.random.pick(&[0, 1]));
+            return;
+        }
+        let points = self.points();
+        for place in 1..=points.min(20) {
+            let point = if points <= 20 { place } else { self.random.within(1, i64::from(points)) as u32 };
+            self.script.reason(point);
+        }
+    }
+
     fn operator_calls(&mut self) {
-        let points = self.sketch.as_ref().map_or(1, |sketch| sketch.units.len() + sketch.aggregates) as u32;
+        let points = self.points();
         let units = self.sketch.as_ref().map_or(1, |sketch| sketch.units.len()) as u32;
         let semi_scheduled = self.sketch.as_ref().map_or(Vec::new(), Sketch::semi_scheduled);
         let declarable = self.sketch.as_ref().map_or(Vec::new(), Sketch::declarable);
@@ -806,6 +882,9 @@ impl Author {
             }
             _ => self.try_levels(point),
         }
+        if self.random.chance(400) {
+            self.script.reason(point);
+        }
     }
 
     /// Levels at their bounds, one after the other; often rising, so that those below 0 meet the point undeclared.
@@ -826,12 +905,12 @@ impl Author {
 
     /// A call that cannot be read, and a look behind it that must not answer.
     fn script_error(&mut self) {
-        match self.random.below(8) {
+        match self.random.below(12) {
             0 => return self.script.raw(&[5]),
             1 => return self.script.raw(&[5, 0, 0, 0, 4, 0, 0]),
             2 => return self.script.raw(&[1, 0, 0, 0, 20, 0, 0, 0, 1, 0, 2, 3, 4]),
             3 => {
-                let tag = self.random.pick(&[0, 6, 7, 255, 256, u32::MAX]);
+                let tag = self.random.pick(&[0, 7, 7, 8, 255, 256, u32::MAX]);
                 self.script.call(tag, &[1, 0, 0, 0]);
             }
             4 => {
@@ -843,6 +922,10 @@ impl Author {
                 self.script.call(tag, &[0; 8_193]);
             }
             6 => self.script.interval(4_097, &[0; 48]),
+            7..=10 => {
+                let length = self.random.pick(&[0, 1, 3, 5, 8, 12]);
+                self.script.call(6, &vec![1; length]);
+            }
             _ => return self.script.raw(&[5, 0, 0, 0, 255, 255, 255, 255, 1, 0, 0, 0]),
         }
         self.script.look(1);
@@ -1036,7 +1119,14 @@ fn draft_unit(random: &mut Random, unit: &mut Unit, course: Course, upward: bool
 }
 
 /// Moves one member's power so that the aggregate's error comes to lie at or between its triggers.
-fn tune_aggregate(random: &mut Random, units: &[Unit], group: &Group, drafts: &mut [Option<Draft>], stubborn: bool) {
+fn tune_aggregate(
+    random: &mut Random,
+    units: &[Unit],
+    group: &Group,
+    course: Course,
+    drafts: &mut [Option<Draft>],
+    stubborn: bool,
+) {
     let mut target = 0;
     let mut power = 0;
     let mut kept_target = 0;
@@ -1064,7 +1154,7 @@ fn tune_aggregate(random: &mut Random, units: &[Unit], group: &Group, drafts: &m
         }
         let found = Triggers::of(availability[0].max(availability[1]), rates[0].max(rates[1]));
         let (small, large) = (i64::from(found.small) / 100, i64::from(found.large) / 100);
-        let error = match (group.course, place) {
+        let error = match (course, place) {
             (Course::Edge, _) => [small, small + 1, large, large + 1, small - 1, small, large + 1][place],
             (Course::Small, _) | (_, 0 | 1) => small + 1 + (large - small) * share / 1_000 - i64::from(share == 1_000),
             _ => large + 1 + share,

@@ -48,6 +48,8 @@ pub enum Refusal {
     NotLater = 34,
     /// Reinstatement of a unit of demand response that is not declared.
     UnitNotDeclared = 35,
+    /// Reason of a point that is not declared.
+    NoReason = 36,
 }
 
 impl Refusal {

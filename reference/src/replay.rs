@@ -1,7 +1,8 @@
 //! Runs any list of calls from bytes and prints one answer a call.
 //!
 //! The calls of a list of [`frames`](crate::frames), by tag: 1 load (register), 2 interval (u32 length of the report buffer,
-//! then the interval buffer), 3 declare (u32 point, i32 level), 4 reinstate (u32 point), 5 look (u32 point).
+//! then the interval buffer), 3 declare (u32 point, i32 level), 4 reinstate (u32 point), 5 look (u32 point), 6 reason (u32
+//! point).
 
 use crate::frames::{self, word};
 use crate::monitor::{Look, Monitor};
@@ -14,6 +15,7 @@ pub const INTERVAL: u32 = 2;
 pub const DECLARE: u32 = 3;
 pub const REINSTATE: u32 = 4;
 pub const LOOK: u32 = 5;
+pub const REASON: u32 = 6;
 
 pub const MAX_REPORT: usize = 4_096;
 
@@ -25,6 +27,7 @@ pub enum Call<'a> {
     Declare { point: u32, level: i32 },
     Reinstate { point: u32 },
     Look { point: u32 },
+    Reason { point: u32 },
 }
 
 /// The calls of a list.
@@ -54,6 +57,7 @@ fn read_call(tag: u32, payload: &[u8]) -> Option<Call<'_>> {
         }
         REINSTATE => Call::Reinstate { point: only_word(payload)? },
         LOOK => Call::Look { point: only_word(payload)? },
+        REASON => Call::Reason { point: only_word(payload)? },
         _ => return None,
     })
 }
@@ -85,6 +89,10 @@ pub fn run(bytes: &[u8], out: &mut impl Write) -> io::Result<()> {
                     writeln!(out, "look accepted {status} {small} {large} {level}")?;
                 }
                 Err(refusal) => writeln!(out, "look {refusal}")?,
+            },
+            Ok(Call::Reason { point }) => match monitor.reason(point) {
+                Ok(reason) => writeln!(out, "reason accepted {reason}")?,
+                Err(refusal) => writeln!(out, "reason {refusal}")?,
             },
             Err(place) => writeln!(out, "script error at byte {place}")?,
         }
@@ -145,6 +153,10 @@ impl Script {
         self.call(LOOK, &point.to_le_bytes());
     }
 
+    pub fn reason(&mut self, point: u32) {
+        self.call(REASON, &point.to_le_bytes());
+    }
+
     /// Bytes so far.
     pub fn len(&self) -> usize {
         self.bytes.len()
@@ -181,10 +193,12 @@ mod tests {
         script.declare(0, i32::MIN);
         script.reinstate(0);
         script.look(0);
+        script.reason(0);
         script.load(&[]);
         assert_eq!(
             text(&script.into_bytes()),
-            "interval refused 20\ndeclare refused 20\nreinstate refused 20\nlook refused 20\nload refused 1\n"
+            "interval refused 20\ndeclare refused 20\nreinstate refused 20\nlook refused 20\nreason refused 20\n\
+             load refused 1\n"
         );
         assert_eq!(text(&[]), "");
     }
@@ -208,7 +222,7 @@ mod tests {
         };
         for (tag, length) in [
             (0, 0),
-            (6, 4),
+            (7, 4),
             (7, 8),
             (256, 4),
             (3, 4),
@@ -217,6 +231,10 @@ mod tests {
             (4, 8),
             (5, 0),
             (5, 5),
+            (6, 0),
+            (6, 3),
+            (6, 5),
+            (6, 8),
             (1, 8_193),
             (2, 8_193),
             (2, 3),
@@ -226,6 +244,7 @@ mod tests {
         }
         assert_eq!(after(&call(2, &4_097u32.to_le_bytes())), error);
         assert!(after(&call(2, &4_096u32.to_le_bytes())).ends_with("interval refused 20\nlook refused 20\n"));
+        assert!(after(&call(6, &[0; 4])).ends_with("reason refused 20\nlook refused 20\n"));
         assert!(after(&call(1, &[0; 8_192])).ends_with("load refused 2\nlook refused 20\n"));
     }
 }

@@ -1,7 +1,8 @@
 //! Calls on the monitor, and the program on the data folders.
 
 use conformance::monitor::Record;
-use conformance::{program, Look, Monitor};
+use conformance::replay::{self, Script};
+use conformance::{program, Look, Mark, Monitor, Reason};
 
 fn register(lengths: [u8; 6], units: &[(u8, u8)], heads: &[u8]) -> Vec<u8> {
     let mut bytes = vec![units.len() as u8, heads.len() as u8];
@@ -24,6 +25,19 @@ fn line(mw: f32) -> [u8; 40] {
     }
     for (at, value) in [(28, mw), (32, 3.0), (36, 3.0)] {
         bytes[at..at + 4].copy_from_slice(&value.to_le_bytes());
+    }
+    bytes
+}
+
+/// The same with availability 200,000 and rates 9 MW per minute: small trigger 600,000, large 1,000,000.
+fn wide(mw: f32) -> [u8; 40] {
+    let mut bytes = line(mw);
+    bytes[8..12].copy_from_slice(&200_000u32.to_le_bytes());
+    for at in [20, 24] {
+        bytes[at..at + 4].copy_from_slice(&9_000u32.to_le_bytes());
+    }
+    for at in [32, 36] {
+        bytes[at..at + 4].copy_from_slice(&9.0f32.to_le_bytes());
     }
     bytes
 }
@@ -71,6 +85,18 @@ impl One {
         Record::of(&report)
     }
 
+    /// Intervals with these marks, numbered from the first on.
+    fn marks(&mut self, first: u32, mode: u8, marks: &str) {
+        for (number, letter) in (first..=u32::MAX).zip(marks.chars()) {
+            let (mark, line) = marked(letter);
+            assert_eq!(self.interval(number, mode, line).mark, mark as u8, "interval {number}");
+        }
+    }
+
+    fn reason(&self) -> Result<Reason, u32> {
+        self.0.reason(1).map_err(|refusal| refusal.number())
+    }
+
     fn refused(&mut self, bytes: &[u8], report: usize) -> u32 {
         let before = self.0.clone();
         let mut report = vec![0xEE; report];
@@ -78,6 +104,26 @@ impl One {
         assert!(report.iter().all(|&byte| byte == 0xEE) && self.0 == before);
         refusal.number()
     }
+}
+
+/// The line that gets a mark, by its first letter, when a target of 100,000 is kept.
+fn marked(letter: char) -> (Mark, [u8; 40]) {
+    match letter {
+        'B' => (Mark::Blank, with(wide(120.0), 0, 2)),
+        'C' => (Mark::Clear, wide(100.0)),
+        'D' => (Mark::Doubt, with(wide(120.0), 0, 1)),
+        'S' => (Mark::Small, wide(108.0)),
+        'L' => (Mark::Large, wide(120.0)),
+        _ => panic!("{letter}"),
+    }
+}
+
+fn small(first: u32, last: u32) -> Result<Reason, u32> {
+    Ok(Reason::Small { first, last })
+}
+
+fn large(first: u32, last: u32) -> Result<Reason, u32> {
+    Ok(Reason::Large { first, last })
 }
 
 fn summary(record: Record) -> (u8, u8, u8, u8) {
@@ -179,19 +225,7 @@ fn automatic_mode_declares() {
 fn large_run_declares_alone() {
     // Small lengths 8 9 10, large 2 3 4: SMALL between clears the large run.
     let mut one = One::new([8, 9, 10, 2, 3, 4]);
-    let wide = |mw: f32| {
-        let mut bytes = line(mw);
-        bytes[8..12].copy_from_slice(&200_000u32.to_le_bytes());
-        for at in [20, 24] {
-            bytes[at..at + 4].copy_from_slice(&9_000u32.to_le_bytes());
-        }
-        for at in [32, 36] {
-            bytes[at..at + 4].copy_from_slice(&9.0f32.to_le_bytes());
-        }
-        bytes
-    };
     one.interval(1, 1, wide(100.0));
-    // Small trigger 600,000, large 1,000,000.
     let marks: Vec<_> = [120.0, 120.0, 108.0, 120.0, 120.0, 120.0, 120.0]
         .iter()
         .zip(2..)
@@ -557,6 +591,325 @@ fn a_refused_level_leaves_the_point_to_an_interval() {
     assert_eq!(one.0.declare(1, -300).unwrap_err().number(), 11);
     assert_eq!(one.0.declare(1, 0).unwrap_err().number(), 22);
     assert_eq!(one.0.look(1), Ok(Look { status: 4, small: 0, large: 0, level: 0 }));
+}
+
+/// Manual mode and automatic mode.
+const MANUAL: u8 = 0;
+const AUTOMATIC: u8 = 1;
+
+#[test]
+fn reasons_of_runs() {
+    // Stretches of marks: the number of the first, the mode, the letters. The first interval is BLANK, nothing being kept.
+    type Case<'a> = ([u8; 6], &'a [(u32, u8, &'a str)], Result<Reason, u32>);
+    let cases: [Case; 27] = [
+        // Declaration at 5 marks of the small run, 4 of the large one.
+        ([2, 3, 5, 2, 3, 4], &[(10, AUTOMATIC, "BSSSSS")], small(11, 15)),
+        ([2, 3, 5, 2, 3, 4], &[(10, AUTOMATIC, "BSSLSL")], small(11, 15)),
+        ([2, 3, 5, 2, 3, 4], &[(10, AUTOMATIC, "BSSLLL")], small(11, 15)),
+        ([2, 3, 5, 2, 3, 4], &[(10, AUTOMATIC, "BLLLS")], Err(36)),
+        ([2, 3, 5, 2, 3, 4], &[(10, AUTOMATIC, "BLLLSS")], small(11, 15)),
+        ([2, 3, 5, 2, 3, 4], &[(10, AUTOMATIC, "BLLLL")], large(11, 14)),
+        // Both at their lengths: large, from the mark where that run begins.
+        ([2, 3, 5, 2, 3, 4], &[(10, AUTOMATIC, "BSLLLL")], large(12, 15)),
+        ([2, 3, 4, 2, 3, 4], &[(10, AUTOMATIC, "BLLLL")], large(11, 14)),
+        ([2, 3, 9, 2, 3, 4], &[(10, AUTOMATIC, "BSLSSLLLL")], large(15, 18)),
+        ([2, 3, 8, 2, 3, 4], &[(10, AUTOMATIC, "BSLSSLLLL")], large(15, 18)),
+        ([2, 3, 7, 2, 3, 4], &[(10, AUTOMATIC, "BSLSSLLL")], small(11, 17)),
+        // BLANK and DOUBT before a run, inside it, between its marks and those of the other.
+        ([2, 3, 5, 2, 3, 4], &[(10, AUTOMATIC, "BSBDSSBSDS")], small(11, 19)),
+        ([2, 3, 5, 2, 3, 4], &[(10, AUTOMATIC, "BDDBLBBLDLL")], large(14, 20)),
+        ([2, 3, 5, 2, 3, 4], &[(10, AUTOMATIC, "BSDBLDLLL")], large(14, 18)),
+        // CLEAR before it.
+        ([2, 3, 5, 2, 3, 4], &[(10, AUTOMATIC, "BSSSSCSSSSS")], small(16, 20)),
+        ([2, 3, 5, 2, 3, 4], &[(10, AUTOMATIC, "BLLLCBLLLL")], large(16, 19)),
+        // Jumps: the first interval after one is BLANK.
+        ([2, 3, 5, 2, 3, 4], &[(10, AUTOMATIC, "BSS"), (20, AUTOMATIC, "BSS"), (90, AUTOMATIC, "BS")], small(11, 91)),
+        ([2, 3, 5, 2, 3, 4], &[(10, AUTOMATIC, "BL"), (13, AUTOMATIC, "BLLL")], large(11, 16)),
+        // Manual mode counts; the next SMALL or LARGE in automatic mode declares, beyond the lengths too.
+        ([2, 3, 5, 2, 3, 4], &[(10, MANUAL, "BSSSSSSS")], Err(36)),
+        ([2, 3, 5, 2, 3, 4], &[(10, MANUAL, "BSSSSSSS"), (18, AUTOMATIC, "S")], small(11, 18)),
+        ([2, 3, 5, 2, 3, 4], &[(10, MANUAL, "BSSSSSSS"), (18, AUTOMATIC, "L")], small(11, 18)),
+        ([2, 3, 5, 2, 3, 4], &[(10, MANUAL, "BSSLLLLL"), (18, AUTOMATIC, "L")], large(13, 18)),
+        ([2, 3, 5, 2, 3, 4], &[(10, MANUAL, "BLLLLLLL"), (18, AUTOMATIC, "S")], small(11, 18)),
+        ([2, 3, 9, 2, 3, 4], &[(10, MANUAL, "BLLLLLLL"), (18, AUTOMATIC, "S")], Err(36)),
+        ([2, 3, 5, 2, 3, 4], &[(10, MANUAL, "BLLLL"), (15, AUTOMATIC, "BD")], Err(36)),
+        ([2, 3, 5, 2, 3, 4], &[(10, MANUAL, "BLLLL"), (15, AUTOMATIC, "BD"), (17, AUTOMATIC, "L")], large(11, 17)),
+        // From the first number that can count to the last there is.
+        ([2, 3, 5, 2, 3, 4], &[(0, AUTOMATIC, "BLLL"), (u32::MAX - 1, AUTOMATIC, "BL")], large(1, u32::MAX)),
+    ];
+    for (lengths, stretches, reason) in cases {
+        let mut one = One::new(lengths);
+        for &(first, mode, marks) in stretches {
+            assert_eq!(one.reason(), Err(36));
+            one.marks(first, mode, marks);
+        }
+        assert_eq!(one.reason(), reason, "{lengths:?} {stretches:?}");
+    }
+}
+
+#[test]
+fn reasons_past_255() {
+    // The 254th LARGE declares; with a SMALL before it, both runs are at their lengths then.
+    let mut one = One::new([2, 3, 255, 2, 3, 254]);
+    one.marks(1, AUTOMATIC, &["B", &"L".repeat(254)].concat());
+    assert_eq!(one.reason(), large(2, 255));
+    let mut one = One::new([2, 3, 255, 2, 3, 254]);
+    one.marks(1, AUTOMATIC, &["BS", &"L".repeat(253)].concat());
+    assert_eq!(one.reason(), Err(36));
+    one.marks(256, AUTOMATIC, "L");
+    assert_eq!(one.reason(), large(3, 256));
+    // Marks in manual mode and the letter of the one in automatic mode that follows, from 1 on.
+    for (marks, declaring, reason) in [
+        ("L".repeat(254), "L", large(2, 256)),
+        ("L".repeat(255), "L", large(2, 257)),
+        ("L".repeat(256), "L", large(2, 258)),
+        ("L".repeat(600), "L", large(2, 602)),
+        ("L".repeat(600), "S", small(2, 602)),
+        ("S".repeat(600), "L", small(2, 602)),
+        // The small run stands at 255 when the large one begins.
+        (["S".repeat(300), "L".repeat(254)].concat(), "L", large(302, 556)),
+        (["S".repeat(300), "L".repeat(253)].concat(), "L", small(2, 555)),
+        (["S".repeat(300), "L".repeat(300)].concat(), "L", large(302, 602)),
+        // Both stand at 255, and the large one begins anew.
+        (["L".repeat(300), "S".into(), "L".repeat(300)].concat(), "L", large(303, 603)),
+        (["L".repeat(300), "S".into(), "L".repeat(100)].concat(), "L", small(2, 403)),
+        // BLANK and DOUBT in a run that stands at 255.
+        (["L".repeat(300), "BD".into(), "L".repeat(10)].concat(), "L", large(2, 314)),
+        // CLEAR ends one.
+        (["L".repeat(300), "C".into(), "L".repeat(254)].concat(), "L", large(303, 557)),
+    ] {
+        let mut one = One::new([2, 3, 255, 2, 3, 255]);
+        one.marks(1, MANUAL, &["B", &marks].concat());
+        assert_eq!(one.reason(), Err(36));
+        one.marks(2 + marks.len() as u32, AUTOMATIC, declaring);
+        assert_eq!(one.reason(), reason);
+    }
+}
+
+#[test]
+fn marks_after_a_declaration_change_no_reason() {
+    for (declaring, reason) in [("SSSSS", small(11, 15)), ("LLLL", large(11, 14)), ("SSLLL", small(11, 15))] {
+        let mut one = One::new([2, 3, 5, 2, 3, 4]);
+        one.marks(10, AUTOMATIC, "B");
+        one.marks(11, AUTOMATIC, declaring);
+        assert_eq!(one.reason(), reason);
+        // Each of them, and both runs at their lengths once more, in either mode.
+        for (first, mode, marks) in [
+            (20, AUTOMATIC, "BLLLLLLLL"),
+            (30, MANUAL, "BSSSSSSSS"),
+            (40, AUTOMATIC, "BCLLLLLL"),
+            (50, AUTOMATIC, "BSSSSSDBC"),
+        ] {
+            one.marks(first, mode, marks);
+            assert_eq!(one.reason(), reason);
+            assert_eq!(one.0.look(1).map(|look| (look.status, look.small, look.large)), Ok((4, 0, 0)));
+        }
+        // Refused calls change nothing either, nor does asking.
+        assert_eq!(one.0.declare(1, 0).unwrap_err().number(), 22);
+        assert_eq!(one.0.load(&[]).unwrap_err().number(), 1);
+        assert_eq!(one.refused(&buffer(58, 1, &[wide(120.0)]), 16), 21);
+        let before = one.0.clone();
+        assert_eq!(one.reason(), reason);
+        assert!(one.0 == before);
+    }
+}
+
+#[test]
+fn a_reinstatement_clears_the_reason() {
+    let mut one = One::new([2, 3, 5, 2, 3, 4]);
+    one.marks(10, AUTOMATIC, "BSSSSSLLL");
+    assert_eq!(one.reason(), small(11, 15));
+    // The marks up to it count no more.
+    one.0.reinstate(1).unwrap();
+    assert_eq!(one.reason(), Err(36));
+    one.marks(19, AUTOMATIC, "LLL");
+    assert_eq!(one.reason(), Err(36));
+    one.marks(22, AUTOMATIC, "L");
+    assert_eq!(one.reason(), large(19, 22));
+    // A reinstatement that is refused leaves it.
+    one.0.reinstate(1).unwrap();
+    assert_eq!(one.0.reinstate(1).unwrap_err().number(), 23);
+    one.marks(23, MANUAL, "LL");
+    assert_eq!(one.0.reinstate(1).unwrap_err().number(), 23);
+    one.0.declare(1, 7).unwrap();
+    assert_eq!(one.reason(), Ok(Reason::Operator));
+    one.0.reinstate(1).unwrap();
+    one.marks(25, AUTOMATIC, "BSDSSSS");
+    assert_eq!(one.reason(), small(26, 31));
+}
+
+#[test]
+fn an_operator_is_the_reason_until_reinstated() {
+    for away in ["SS", "LL", "LLL", "SSSSSSSS", "LLLLLLLL"] {
+        let mut one = One::new([2, 3, 5, 2, 3, 4]);
+        one.marks(10, MANUAL, "B");
+        one.marks(11, MANUAL, away);
+        assert_eq!(one.reason(), Err(36));
+        one.0.declare(1, 0).unwrap();
+        assert_eq!(one.reason(), Ok(Reason::Operator));
+        // The runs of before would declare at the first mark, and later ones by themselves.
+        one.marks(11 + away.len() as u32, AUTOMATIC, "LLLLLLLLSSSSSSSSC");
+        assert_eq!(one.reason(), Ok(Reason::Operator));
+        one.0.reinstate(1).unwrap();
+        assert_eq!(one.reason(), Err(36));
+        one.marks(28 + away.len() as u32, AUTOMATIC, "LLLL");
+        assert_eq!(one.reason(), large(28 + away.len() as u32, 31 + away.len() as u32));
+    }
+}
+
+#[test]
+fn a_load_clears_what_a_reason_needs() {
+    let register = register([2, 3, 5, 2, 3, 4], &[(1, 0)], &[]);
+    let mut one = One::new([2, 3, 5, 2, 3, 4]);
+    one.marks(10, AUTOMATIC, "BLLL");
+    // A refused one leaves the runs.
+    assert_eq!(one.0.load(&register[..19]).unwrap_err().number(), 1);
+    one.marks(14, AUTOMATIC, "L");
+    assert_eq!(one.reason(), large(11, 14));
+    one.0.load(&register).unwrap();
+    assert_eq!(one.reason(), Err(36));
+    one.marks(3, AUTOMATIC, "BSS");
+    one.0.load(&register).unwrap();
+    one.marks(3, AUTOMATIC, "BSSLS");
+    assert_eq!(one.reason(), Err(36));
+    one.marks(8, AUTOMATIC, "L");
+    assert_eq!(one.reason(), small(4, 8));
+}
+
+#[test]
+fn reason_refusals() {
+    let mut monitor = Monitor::new();
+    let number = |monitor: &Monitor, point| monitor.reason(point).unwrap_err().number();
+    for point in [0, 1, u32::MAX] {
+        assert_eq!(number(&monitor, point), 20);
+    }
+    monitor.load(&register([2, 3, 4, 2, 3, 4], &[(1, 0)], &[1])).unwrap();
+    let mut report = [0; 32];
+    // 36 at the statuses 0 to 3, and not at 4.
+    for (interval, status) in (1..=5).zip([0, 1, 2, 3, 4]) {
+        let mw = if interval == 1 { 100.0 } else { 107.0 };
+        monitor.interval(&buffer(interval, 1, &[member(mw, 2)]), &mut report).unwrap();
+        for point in [1, 2] {
+            assert_eq!(monitor.look(point).unwrap().status, status);
+            let answer = monitor.reason(point).map_err(|refusal| refusal.number());
+            assert_eq!(answer, if status == 4 { large(2, 5) } else { Err(36) });
+        }
+        for point in [0, 3, 257, 65_537, u32::MAX] {
+            assert_eq!(number(&monitor, point), 10);
+        }
+    }
+}
+
+#[test]
+fn a_reason_for_each_point_of_a_group() {
+    // Units 1 and 2 a chain: point 4. Its small trigger is 1,200,000, its large one 2,000,000. Unit 3 in none.
+    let mut monitor = Monitor::new();
+    assert_eq!(monitor.load(&register([2, 3, 5, 2, 3, 4], &[(1, 2), (1, 0), (1, 0)], &[1])), Ok(2));
+    let off = |line| with(line, 1, 1);
+    let on = |mw| with(wide(mw), 1, 2);
+    let mut report = [0; 64];
+    let mut run = |number, lines: &[[u8; 40]]| {
+        monitor.interval(&buffer(number, 1, lines), &mut report).unwrap();
+        let marks: Vec<u8> = report.as_chunks().0.iter().map(|bytes| Record::of(bytes).mark).collect();
+        let reasons: Vec<_> = (1..=4).map(|point| monitor.reason(point).map_err(|refusal| refusal.number())).collect();
+        (marks, reasons)
+    };
+    let none = vec![Err(36); 4];
+    assert_eq!(run(1, &[on(100.0), on(100.0), wide(100.0)]), (vec![1, 1, 1, 1], none.clone()));
+    // Unit 1 at 20,000 is LARGE, its aggregate SMALL; OFF clears the unit's runs alone.
+    assert_eq!(run(2, &[on(120.0), on(100.0), wide(108.0)]), (vec![5, 2, 4, 4], none.clone()));
+    assert_eq!(run(3, &[off(on(120.0)), on(100.0), wide(108.0)]), (vec![0, 2, 4, 4], none.clone()));
+    assert_eq!(run(4, &[on(120.0), on(100.0), wide(108.0)]), (vec![5, 2, 4, 4], none.clone()));
+    // One unreadable: BLANK for it and for the aggregate, twice.
+    assert_eq!(run(5, &[on(120.0), with(on(100.0), 3, 1), wide(108.0)]), (vec![5, 1, 4, 1], none.clone()));
+    assert_eq!(run(6, &[on(120.0), on(100.0), wide(100.0)]), (vec![5, 1, 2, 1], none));
+    assert_eq!(
+        run(7, &[on(120.0), on(100.0), wide(120.0)]),
+        (vec![5, 2, 5, 4], vec![large(4, 7), Err(36), Err(36), Err(36)])
+    );
+    assert_eq!(
+        run(8, &[on(120.0), on(100.0), wide(120.0)]),
+        (vec![5, 2, 5, 4], vec![large(4, 7), Err(36), Err(36), small(2, 8)])
+    );
+    // All members off: OFF, and the reasons stand.
+    assert_eq!(
+        run(9, &[with(wide(120.0), 1, 0), with(wide(100.0), 1, 0), wide(120.0)]),
+        (vec![0, 0, 5, 0], vec![large(4, 7), Err(36), Err(36), small(2, 8)])
+    );
+    assert_eq!(
+        run(10, &[on(100.0), on(100.0), wide(120.0)]),
+        (vec![2, 2, 5, 2], vec![large(4, 7), Err(36), large(7, 10), small(2, 8)])
+    );
+}
+
+#[test]
+fn a_reason_for_a_semi_scheduled_unit() {
+    let mut one = One::of_kind(4, [2, 3, 5, 2, 3, 4]);
+    for (number, line, mark) in [
+        (1, flagged(100.0, 1), 1),
+        (2, flagged(107.0, 1), 5),
+        (3, flagged(107.0, 0), 5),
+        // A kept flag of 0, and an error below the target, clear the runs.
+        (4, flagged(107.0, 1), 0),
+        (5, flagged(107.0, 1), 5),
+        (6, flagged(93.0, 1), 2),
+        (7, flagged(107.0, 1), 5),
+        (8, flagged(107.0, 2), 1),
+        (9, flagged(107.0, 1), 1),
+        (10, flagged(107.0, 1), 5),
+        (11, flagged(107.0, 1), 5),
+    ] {
+        assert_eq!(one.interval(number, 1, line).mark, mark);
+        assert_eq!(one.reason(), Err(36));
+    }
+    assert_eq!(one.interval(12, 1, flagged(107.0, 0)).mark, 5);
+    assert_eq!(one.reason(), large(7, 12));
+    assert_eq!(one.interval(13, 1, flagged(107.0, 0)).mark, 0);
+    assert_eq!(one.reason(), large(7, 12));
+}
+
+#[test]
+fn reasons_printed() {
+    let mut script = Script::new();
+    let interval = |script: &mut Script, number, marks: [char; 2]| {
+        script.interval(32, &buffer(number, 1, &marks.map(|letter| marked(letter).1)));
+    };
+    script.reason(1);
+    script.load(&register([2, 3, 5, 2, 3, 4], &[(1, 0), (1, 0)], &[]));
+    for (number, marks) in (7..).zip([['B', 'B'], ['L', 'S'], ['L', 'S'], ['L', 'S'], ['L', 'S'], ['C', 'S']]) {
+        interval(&mut script, number, marks);
+    }
+    for point in 0..=3 {
+        script.reason(point);
+    }
+    script.reinstate(2);
+    script.reason(2);
+    for (number, marks) in (13..).zip([['C', 'S'], ['C', 'S']]) {
+        interval(&mut script, number, marks);
+    }
+    script.declare(2, 0);
+    script.reason(2);
+    script.call(6, &[1, 0, 0]);
+    script.reason(1);
+    let place = script.len() - 12 - 11;
+    let mut out = Vec::new();
+    replay::run(&script.into_bytes(), &mut out).unwrap();
+    let printed = String::from_utf8(out).unwrap();
+    let lines: Vec<&str> = printed.lines().filter(|line| line.starts_with(['r', 's'])).collect();
+    assert_eq!(
+        lines,
+        [
+            "reason refused 20",
+            "reason refused 10",
+            "reason accepted large 8 11",
+            "reason accepted small 8 12",
+            "reason refused 10",
+            "reinstate accepted",
+            "reason refused 36",
+            "reason accepted operator 0 0",
+            &format!("script error at byte {place}"),
+        ]
+    );
 }
 
 #[test]

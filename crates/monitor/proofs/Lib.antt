@@ -6,5 +6,8 @@ pub mod Groups
 pub mod Levels
 pub mod Runs
 pub mod Tracks
+pub mod Pasts
 pub mod Declarations
+pub mod FirstMarks
+pub mod Reasons
 pub mod Demand

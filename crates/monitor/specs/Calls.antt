@@ -5,10 +5,11 @@ use Prim.Native.Nat.{ℕ}
 use lib.IntN.{ℤ}
 use lib.ListN.{length}
 use Rattle.trace.specs.Lists.{fold, outcomes}
+use Rattle.points.specs.declared.Reason.{Reason}
 use Rattle.points.specs.declared.Point.{Point}
 use Rattle.intervals.specs.Intervals.{decide, intervalOf, reportOf}
 use Rattle.intervals.specs.declared.Monitor.{Monitor}
-use Rattle.operators.specs.Operators.{Operator, declare, reinstate, look, operatedOf, lookedOf}
+use Rattle.operators.specs.Operators.{Operator, declare, reinstate, ask, look, reason, operatedOf, lookedOf, reasonedOf}
 
 -- an interval with the report buffer as it stood, or an operator call that names a point
 pub data Call : Type 0 where
@@ -21,17 +22,20 @@ pub data Outcome : Type 0 where
   reported : List ℕ → Outcome
   done : Outcome
   looked : (status small large : ℕ) (level : ℤ) → Outcome
+  reasoned : Reason → Outcome
 
 abbrev pub reply : Operator → Point → Outcome
 reply (declare level) q = done
 reply reinstate q = done
-reply look q = looked (q .status) (q .small) (q .large) (q .level)
+reply (ask look) q = looked (q .status) (q .small .count) (q .large .count) (q .level)
+reply (ask reason) q = reasoned (q .reason)
 
 -- the state that a call returns
 abbrev pub nextBy : Operator → Monitor → ℕ → Monitor
 nextBy (declare level) m p = operatedOf (declare level) m p .monitor
 nextBy reinstate m p = operatedOf reinstate m p .monitor
-nextBy look m p = lookedOf m p .monitor
+nextBy (ask look) m p = lookedOf m p .monitor
+nextBy (ask reason) m p = reasonedOf m p .monitor
 
 abbrev pub next : Monitor → Call → Monitor
 next m (interval buffer report) = intervalOf m buffer (length report) .monitor
@@ -41,7 +45,8 @@ next m (operate op p) = nextBy op m p
 abbrev pub answerBy : Operator → Monitor → ℕ → Outcome
 answerBy (declare level) m p = decide (operatedOf (declare level) m p .verdict) refusal done
 answerBy reinstate m p = decide (operatedOf reinstate m p .verdict) refusal done
-answerBy look m p = decide (lookedOf m p .verdict) refusal (reply look (lookedOf m p .point))
+answerBy (ask look) m p = decide (lookedOf m p .verdict) refusal (reply (ask look) (lookedOf m p .point))
+answerBy (ask reason) m p = decide (reasonedOf m p .verdict) refusal (reasoned (reasonedOf m p .reason))
 
 abbrev pub answer : Monitor → Call → Outcome
 answer m (interval buffer report) = decide (intervalOf m buffer (length report) .verdict) refusal (reported (reportOf m buffer report))

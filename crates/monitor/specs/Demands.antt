@@ -1,4 +1,5 @@
--- Demand 3, over every list of interval, declare, reinstate and look calls, refused ones included, from a freshly accepted register on.
+-- Demand 3, over every list of interval, declare, reinstate, look and reason calls, refused ones included, from a freshly accepted
+-- register on.
 use mathlib.Core.Path.{_≡_}
 use mathlib.Core.Logic.{_↔_, _⊎_}
 use mathlib.Core.Bool.{Bool, true, false, cond, _&&_}
@@ -7,9 +8,6 @@ use Prim.Native.Nat.{ℕ, zero, suc, _+_, _*_, _≤_}
 use lib.IntN.{ℤ}
 use lib.ListN.{length, take, drop}
 use Rattle.trace.specs.Lists.{outcomes, Alike, sights, Since}
-use Rattle.register.specs.Chains.{allMembers}
-use Rattle.register.specs.Registers.{answerNumber, answerVisits, registeredOf, registerRefusal}
-use Rattle.register.specs.declared.Answer.the-variants.{Accepted}
 use Rattle.register.specs.declared.Plant.{Plant}
 use Rattle.marks.specs.Levels.{isDispatchable}
 use Rattle.marks.specs.declared.Mark.the-variants.{Small, Large}
@@ -18,11 +16,9 @@ use Rattle.intervals.specs.Assessments.{headerOf, modeOf}
 use Rattle.intervals.specs.Monitors.{pointAt}
 use Rattle.intervals.specs.declared.Monitor.{Monitor}
 use Rattle.intervals.specs.declared.Verdict.the-variants.{Accept}
-use Rattle.operators.specs.Operators.{Operator, declare, reinstate, look}
-use Rattle.monitor.specs.Loading.{loadOf}
-use Rattle.monitor.specs.Calls.{Call, interval, operate, Outcome, refusal, reported, done, looked, answer, after, run}
+use Rattle.operators.specs.Operators.{Operator, declare, reinstate, ask, look}
+use Rattle.monitor.specs.Calls.{Call, interval, operate, Outcome, refusal, reported, done, looked, reasoned, answer, after, run}
 use Rattle.monitor.specs.History.{History, begin, isDeclared, assessmentThen, verdict, extend, history, foretold}
-use Rattle.monitor.specs.declared.Loaded.{Loaded}
 
 -- ==== The first half: "a group's fate is its own"
 
@@ -61,6 +57,7 @@ ofGroup plant g (refusal k) = refusal k
 ofGroup plant g (reported report) = reported (recordsIn plant g report (total plant))
 ofGroup plant g done = done
 ofGroup plant g (looked status small large level) = looked status small large level
+ofGroup plant g (reasoned why) = reasoned why
 
 -- "A group's answers are those to operator calls that name one of its points, in list order"; and of each interval its refusal's
 -- number or the group's records
@@ -82,8 +79,8 @@ pub data Declares (plant : Plant) (p : ℕ) (h : History) : Call → Type 0 wher
       → named plant p ≡ true
       → modeOf (headerOf buffer) ≡ 1
       → (assessmentThen plant h buffer (place p) .mark ≡ Small) ⊎ (assessmentThen plant h buffer (place p) .mark ≡ Large)
-      → (plant .small .declaration ≤ extend plant h (interval buffer report) .points (place p) .small)
-      ⊎ (plant .large .declaration ≤ extend plant h (interval buffer report) .points (place p) .large)
+      → (plant .small .declaration ≤ extend plant h (interval buffer report) .points (place p) .small .count)
+      ⊎ (plant .large .declaration ≤ extend plant h (interval buffer report) .points (place p) .large .count)
       → Declares plant p h (interval buffer report)
 
 abbrev pub Reinstates : Plant → ℕ → History → Call → Type 0
@@ -100,7 +97,7 @@ declaredThen plant calls p = named plant p && isDeclared (history plant calls .p
 
 -- "A point is declared after a list when a look at it there would answer status 4"
 abbrev pub LooksDeclared : Monitor → ℕ → Type 0
-LooksDeclared m p = (small : ℕ) × (large : ℕ) × (level : ℤ) × (answer m (operate look p) ≡ looked 4 small large level)
+LooksDeclared m p = (small : ℕ) × (large : ℕ) × (level : ℤ) × (answer m (operate (ask look) p) ≡ looked 4 small large level)
 
 -- ==== The promise
 
@@ -111,19 +108,9 @@ pub record Demand3 (plant : Plant) (m : Monitor) : Type 0 where
   -- 2. declared exactly when the rule holds of the list, and the rule's recursive form is equivalent
   pub exactly : (calls : List Call) (p : ℕ) → LooksDeclared (after m calls) p ↔ Declared plant calls p
   pub recursive : (calls : List Call) (p : ℕ) → (declaredThen plant calls p ≡ true) ↔ Declared plant calls p
-  -- 3. bridge: every acceptance, refusal number, report and look is the one that the history gives
+  -- 3. bridge: every acceptance, refusal number, report, look and reason is the one that the history gives
   pub bridge : (calls : List Call) → run m calls ≡ outcomes (extend plant) (foretold plant) begin calls
 
 -- "Never a level that cannot be dispatched" (02, 2026-02), whoever declared the point: looks and reports show the level of its record
 pub record Dispatchable (plant : Plant) (m : Monitor) : Type 0 where
   pub level : (i : ℕ) → isDispatchable (isUnidirectionalAt plant i) (pointAt m i .level) ≡ true
-
--- What load promises: its result, its number and visits in 01, and of the state that an accepted one returns demand 3, and that no list of calls
--- leads to a level that cannot be dispatched. The visits "equal the number of units in chains" of the plant that the bytes give, which has none
--- where they are refused.
-pub record Loads (old : Monitor) (bytes : List ℕ) (r : Loaded) : Type 0 where
-  pub result : r ≡ loadOf old bytes
-  pub number : answerNumber (r .answer) ≡ registerRefusal bytes
-  pub visits : answerVisits (r .answer) ≡ length (allMembers (registeredOf bytes .plant))
-  pub demand3 : (visits : ℕ) → r .answer ≡ Accepted visits → Demand3 (r .monitor .plant) (r .monitor)
-  pub levels : (visits : ℕ) → r .answer ≡ Accepted visits → (calls : List Call) → Dispatchable (r .monitor .plant) (after (r .monitor) calls)

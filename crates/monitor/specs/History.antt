@@ -1,8 +1,8 @@
 -- What has happened, worked out from the plant and the calls alone, first call to last (01, "Whole lists of calls"): "nothing from
--- the monitor's state or answers goes in". Runs do not stop at 255 and go on while a point is declared.
+-- the monitor's state or answers goes in". Runs do not stop at 255, with the number of their first mark, and go on while a point is declared.
 use mathlib.Core.Bool.{Bool, true, false, cond, _&&_, not}
 use mathlib.Core.List.{List}
-use Prim.Native.Nat.{ℕ, min}
+use Prim.Native.Nat.{ℕ}
 use lib.IntN.{ℤ, pos}
 use lib.ListN.{length}
 use Rattle.trace.specs.Sweeps.{records}
@@ -11,30 +11,33 @@ use Rattle.register.specs.declared.Plant.{Plant}
 use Rattle.marks.specs.KeptLines.{nothingKept, keptFrom}
 use Rattle.marks.specs.declared.Kept.{Kept}
 use Rattle.marks.specs.declared.Assessment.{Assessment}
-use Rattle.points.specs.Points.{declaredAt, reaches, statusOf, smallAfter, largeAfter, declares}
+use Rattle.points.specs.Points.{noRun, smallAfter, largeAfter, storedRun, reasonOf, declaredAt, reaches, statusOf, declares}
 use Rattle.points.specs.Records.{recordOf}
+use Rattle.points.specs.declared.Reason.{Reason}
+use Rattle.points.specs.declared.Reason.the-variants.{ByOperator}
+use Rattle.points.specs.declared.Run.{Run}
 use Rattle.points.specs.declared.Point.{Point}
 use Rattle.intervals.specs.Plants.{total, place, named, isUnidirectionalAt}
 use Rattle.intervals.specs.Assessments.{headerOf, numberOf, isAutomatic, ruleOf, lineAt, isFresh, assessmentAt}
 use Rattle.intervals.specs.Intervals.{decide, judgeInterval}
 use Rattle.intervals.specs.declared.Verdict.{Verdict}
 use Rattle.intervals.specs.declared.Verdict.the-variants.{Accept, Refuse}
-use Rattle.operators.specs.Operators.{Operator, declare, reinstate, look, allowedLevel}
+use Rattle.operators.specs.Operators.{Operator, declare, reinstate, ask, look, reason, allowedLevel}
 use Rattle.monitor.specs.Calls.{Call, interval, operate, Outcome, refusal, reported, reply}
 
--- whether a declaration stands, and at which level
+-- whether a declaration stands, at which level and for which reason
 pub data Standing : Type 0 where
   undeclared : Standing
-  declared : (level : ℤ) → Standing
+  declared : (level : ℤ) → Reason → Standing
 
 abbrev pub isDeclared : Standing → Bool
 isDeclared undeclared = false
-isDeclared (declared level) = true
+isDeclared (declared level why) = true
 
 -- one point
 pub record Past : Type 0 where
-  pub small : ℕ
-  pub large : ℕ
+  pub small : Run
+  pub large : Run
   pub standing : Standing
 
 -- whether an interval was accepted, the last one's number and mode, each unit's kept line, and each point, by place
@@ -47,7 +50,7 @@ pub record History : Type 0 where
 
 -- "At the start no interval is accepted, nothing is kept and runs are 0"
 abbrev pub untouched : Past
-untouched = record { small = 0; large = 0; standing = undeclared }
+untouched = record { small = noRun; large = noRun; standing = undeclared }
 
 abbrev pub begin : History
 begin = record { started = false; last = 0; automatic = false; kept = λ i. nothingKept; points = λ i. untouched }
@@ -55,21 +58,23 @@ begin = record { started = false; last = 0; automatic = false; kept = λ i. noth
 -- ---- an accepted interval
 
 -- "A declared point is not declared again"
-abbrev pub standingAfter : Bool → ℤ → Standing → Standing
-standingAfter event level (declared earlier) = declared earlier
-standingAfter true level undeclared = declared level
-standingAfter false level undeclared = undeclared
+abbrev pub standingAfter : Bool → ℤ → Reason → Standing → Standing
+standingAfter event level why (declared earlier before) = declared earlier before
+standingAfter true level why undeclared = declared level why
+standingAfter false level why undeclared = undeclared
 
 -- "SMALL adds 1 to the small run and sets the large run to 0; LARGE adds 1 to both; OFF and CLEAR set both to 0; BLANK and DOUBT
 -- change neither", and a mark that brings a run to its length declares
-abbrev pub marked : Plant → Bool → Assessment → Past → Past
-marked plant automatic a q =
-    let small = smallAfter (a .mark) (q .small) in
-    let large = largeAfter (a .mark) (q .large) in
+abbrev pub marked : Plant → Bool → ℕ → Assessment → Past → Past
+marked plant automatic number a q =
+    let rule = ruleOf plant automatic in
+    let small = smallAfter (a .mark) number (q .small) in
+    let large = largeAfter (a .mark) number (q .large) in
     record {
       small = small;
       large = large;
-      standing = standingAfter (declares (ruleOf plant automatic) (a .mark) small large) (a .level) (q .standing);
+      standing =
+          standingAfter (declares rule (a .mark) (small .count) (large .count)) (a .level) (reasonOf rule number small large) (q .standing);
     }
 
 -- "An accepted one marks every point from its lines and the lines kept before it"
@@ -81,22 +86,26 @@ assessmentThen plant h buffer i =
 
 -- "Declare is accepted when 10 and 11 do not apply, demand 3's rule over the calls before it finds the point not declared, and its
 -- small run is Ns or more or its large run Nl or more. Reinstate is accepted when 10 does not apply and that rule finds the point
--- declared"
-unfoldable pub permitted : Plant → Bool → Operator → Past → Verdict
-permitted plant unidirectional (declare level) q =
-    cond (allowedLevel unidirectional level)
-    (cond (not (isDeclared (q .standing)) && reaches (plant .small .«not_responding») (plant .large .«not_responding») (q .small) (q .large))
+-- declared"; and so is the call for the reason, 36 "after 10" (02, 2026-06)
+unfoldable pub permitted : Plant → ℕ → Operator → Past → Verdict
+permitted plant i (declare level) q =
+    cond (allowedLevel (isUnidirectionalAt plant i) level)
+    (cond (
+    not (isDeclared (q .standing))
+    && reaches (plant .small .«not_responding») (plant .large .«not_responding») (q .small .count) (q .large .count)
+    )
     Accept
     (Refuse 22))
     (Refuse 11)
-permitted plant unidirectional reinstate q = cond (isDeclared (q .standing)) Accept (Refuse 23)
-permitted plant unidirectional look q = Accept
+permitted plant i reinstate q = cond (isDeclared (q .standing)) Accept (Refuse 23)
+permitted plant i (ask look) q = Accept
+permitted plant i (ask reason) q = cond (isDeclared (q .standing)) Accept (Refuse 36)
 
 -- reinstatement "sets both runs to 0"
 abbrev pub changed : Operator → Past → Past
-changed (declare level) q = record { small = q .small; large = q .large; standing = declared level }
+changed (declare level) q = record { small = q .small; large = q .large; standing = declared level ByOperator }
 changed reinstate q = untouched
-changed look q = q
+changed (ask question) q = q
 
 -- ---- a call
 
@@ -105,16 +114,18 @@ abbrev pub verdict : Plant → History → Call → Verdict
 verdict plant h (interval buffer report) =
     judgeInterval plant (h .started) (h .last) (headerOf buffer) (length buffer) (length report)
 verdict plant h (operate op p) =
-    cond (named plant p) (permitted plant (isUnidirectionalAt plant (place p)) op (h .points (place p))) (Refuse 10)
+    cond (named plant p) (permitted plant (place p) op (h .points (place p))) (Refuse 10)
 
 abbrev pub effect : Plant → History → Call → History
 effect plant h (interval buffer report) =
+    let header = headerOf buffer in
     record {
       started = true;
-      last = numberOf (headerOf buffer);
-      automatic = isAutomatic (headerOf buffer);
+      last = numberOf header;
+      automatic = isAutomatic header;
       kept = below (plant .units) (λ i. keptFrom (lineAt plant buffer i)) (h .kept);
-      points = below (total plant) (λ i. marked plant (isAutomatic (headerOf buffer)) (assessmentThen plant h buffer i) (h .points i)) (h .points);
+      points =
+          below (total plant) (λ i. marked plant (isAutomatic header) (numberOf header) (assessmentThen plant h buffer i) (h .points i)) (h .points);
     }
 effect plant h (operate op p) =
     record {
@@ -125,7 +136,7 @@ effect plant h (operate op p) =
       points = updated (place p) (changed op (h .points (place p))) (h .points);
     }
 
--- "Look, and any refused call, changes nothing here"
+-- "Look, and any refused call, changes nothing here", and "like a look" the call for the reason
 abbrev pub extend : Plant → History → Call → History
 extend plant h c = decide (verdict plant h c) (λ k. h) (effect plant h c)
 
@@ -136,15 +147,16 @@ history plant = fold (extend plant) begin
 
 -- the record that a look answers and a report holds: runs stop at 255 and are 0 while declared, and the status is that of the last
 -- accepted interval's mode
-abbrev pub shownAs : Plant → Bool → ℕ → ℕ → Standing → Point
+abbrev pub shownAs : Plant → Bool → Run → Run → Standing → Point
 shownAs plant automatic small large undeclared =
     record {
-      status = statusOf (ruleOf plant automatic) small large;
-      small = min 255 small;
-      large = min 255 large;
+      status = statusOf (ruleOf plant automatic) (small .count) (large .count);
+      small = storedRun small;
+      large = storedRun large;
       level = pos 0;
+      reason = ByOperator;
     }
-shownAs plant automatic small large (declared level) = declaredAt level
+shownAs plant automatic small large (declared level why) = declaredAt level why
 
 abbrev pub shown : Plant → Bool → Past → Point
 shown plant automatic q = shownAs plant automatic (q .small) (q .large) (q .standing)

@@ -7,7 +7,8 @@ use borrow.Author.Tests.{le-leb, lt-leb, ltb-true, ltb-false}
 use lib.Dec.{leb, ltb}
 use Rattle.register.specs.declared.Plant.{Plant}
 use Rattle.points.specs.Points.{normal}
-use Rattle.intervals.specs.Plants.{total, place, named, isUnidirectionalAt}
+use Rattle.points.specs.declared.Reason.the-variants.{ByOperator}
+use Rattle.intervals.specs.Plants.{total, place, named}
 use Rattle.intervals.specs.Monitors.{pointAt, soundOf}
 use Rattle.intervals.specs.declared.Monitor.{Monitor}
 use Rattle.intervals.specs.declared.Verdict.{Verdict}
@@ -15,8 +16,10 @@ use Rattle.intervals.specs.declared.Verdict.the-variants.{Accept, Refuse}
 use Rattle.intervals.specs.declared.Stepped.{Stepped}
 use Rattle.intervals.proofs.States.{units-small, aggregates-small}
 use Rattle.intervals.proofs.Verdicts.{passed}
-use Rattle.operators.specs.Operators.{Operator, look, permit, change, locateOf, operatorVerdict, stored, operatedOf, operatedAt, lookedOf, lookedAt}
+use Rattle.operators.specs.Operators.{Operator, ask, look, reason, permit, permitDeclared, change, locateOf, operatorVerdict, stored}
+use Rattle.operators.specs.Operators.{operatedOf, operatedAt, lookedOf, lookedAt, reasonedOf, reasonedAt}
 use Rattle.operators.specs.declared.Looked.{Looked}
+use Rattle.operators.specs.declared.Reasoned.{Reasoned}
 
 -- ---- where a point is
 
@@ -64,11 +67,11 @@ module _ (m : Monitor) (p : ℕ) (v : Verdict) (is : v ≡ locateOf m p) where
       let own = still-refused (named (m .plant) p) Accept _ 10 k (λ a. absurd (let z : _≡_ {A = ℕ} 0 1 = cc in omega arith)) in
       still-refused (soundOf m) _ _ 20 k own (sym is ∙ e)
 
-  judged-accepted : (op : Operator) (i : ℕ) → v ≡ Accept → i ≡ p - 1 → operatorVerdict op m p ≡ permit (isUnidirectionalAt (m .plant) i) op (pointAt m i)
+  judged-accepted : (op : Operator) (i : ℕ) → v ≡ Accept → i ≡ p - 1 → operatorVerdict op m p ≡ permit (m .plant) i op (pointAt m i)
   unfolding operatorVerdict
   judged-accepted op i e f =
       let b = both-pass m p (sym is ∙ e) in
-      rw (b .0, b .1) (ap (λ (j : ℕ). permit (isUnidirectionalAt (m .plant) j) op (pointAt m j)) (located m p (sym is ∙ e) .2 ∙ sym f))
+      rw (b .0, b .1) (ap (λ (j : ℕ). permit (m .plant) j op (pointAt m j)) (located m p (sym is ∙ e) .2 ∙ sym f))
 
   pub refused-call : (op : Operator) (k : ℕ) → v ≡ Refuse k → _≡_ {A = Stepped} (record { verdict = v; monitor = m }) (operatedOf op m p)
   unfolding operatedOf
@@ -82,17 +85,27 @@ module _ (m : Monitor) (p : ℕ) (v : Verdict) (is : v ≡ locateOf m p) where
 
   pub refused-look : (k : ℕ) → v ≡ Refuse k → _≡_ {A = Looked} (record { verdict = v; point = normal; monitor = m }) (lookedOf m p)
   unfolding lookedOf
-  refused-look k e = rw (judged-refused look k e, e)
+  refused-look k e = rw (judged-refused (ask look) k e, e)
 
   pub located-look : (i : ℕ) → v ≡ Accept → i ≡ p - 1 → lookedAt m i ≡ lookedOf m p
   unfolding lookedOf lookedAt permit
   located-look i e f =
       let at : place p ≡ i = located m p (sym is ∙ e) .2 ∙ sym f in
-      rw (judged-accepted look i e f, at)
+      rw (judged-accepted (ask look) i e f, at)
+
+  pub refused-reason : (k : ℕ) → v ≡ Refuse k → _≡_ {A = Reasoned} (record { verdict = v; reason = ByOperator; monitor = m }) (reasonedOf m p)
+  unfolding reasonedOf
+  refused-reason k e = rw (judged-refused (ask reason) k e, e)
+
+  pub located-reason : (i : ℕ) → v ≡ Accept → i ≡ p - 1 → reasonedAt m i ≡ reasonedOf m p
+  unfolding reasonedOf reasonedAt permit
+  located-reason i e f =
+      let at : place p ≡ i = located m p (sym is ∙ e) .2 ∙ sym f in
+      rw (judged-accepted (ask reason) i e f, at)
 
 -- ---- at a point's record
 
-module _ (op : Operator) (m : Monitor) (i : ℕ) (v : Verdict) (is : v ≡ permit (isUnidirectionalAt (m .plant) i) op (pointAt m i)) where
+module _ (op : Operator) (m : Monitor) (i : ℕ) (v : Verdict) (is : v ≡ permit (m .plant) i op (pointAt m i)) where
   pub accepted-at : (n : Monitor) → v ≡ Accept → n ≡ stored m i (change op (pointAt m i))
       → _≡_ {A = Stepped} (record { verdict = v; monitor = n }) (operatedAt op m i)
   unfolding operatedAt
@@ -101,3 +114,12 @@ module _ (op : Operator) (m : Monitor) (i : ℕ) (v : Verdict) (is : v ≡ permi
   pub refused-at : (k : ℕ) → v ≡ Refuse k → _≡_ {A = Stepped} (record { verdict = v; monitor = m }) (operatedAt op m i)
   unfolding operatedAt
   refused-at k e = rw (← is, e)
+
+module _ (m : Monitor) (i : ℕ) (v : Verdict) (is : v ≡ permitDeclared 36 (pointAt m i)) where
+  pub reasoned-at : v ≡ Accept → _≡_ {A = Reasoned} (record { verdict = v; reason = pointAt m i .reason; monitor = m }) (reasonedAt m i)
+  unfolding reasonedAt
+  reasoned-at e = rw (← is, e)
+
+  pub unreasoned-at : (k : ℕ) → v ≡ Refuse k → _≡_ {A = Reasoned} (record { verdict = v; reason = ByOperator; monitor = m }) (reasonedAt m i)
+  unfolding reasonedAt
+  unreasoned-at k e = rw (← is, e)

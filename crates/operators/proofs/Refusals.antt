@@ -1,11 +1,12 @@
 -- The answer to an operator call in 01's numbers, from the equation for its whole result. Assumes nothing.
 use mathlib.Core.Path.{_≡_, refl}
-use mathlib.Core.Bool.{Bool, true, _||_, not}
+use mathlib.Core.Bool.{true, _||_, not}
 use mathlib.Core.List.{_∷_}
 use Prim.Native.Nat.{ℕ}
 use lib.Dec.{eqb}
 use Rattle.register.specs.declared.Plant.{Plant}
-use Rattle.points.specs.Points.{normal}
+use Rattle.points.specs.Points.{normal, spanOf}
+use Rattle.points.specs.declared.Reason.the-variants.{ByOperator}
 use Rattle.points.specs.declared.Point.{Point}
 use Rattle.intervals.specs.Plants.{place, named, isUnidirectionalAt}
 use Rattle.intervals.specs.Monitors.{pointAt, soundOf}
@@ -15,46 +16,58 @@ use Rattle.intervals.specs.declared.Stepped.{Stepped}
 use Rattle.intervals.specs.declared.Verdict.{Verdict}
 use Rattle.intervals.specs.declared.Verdict.the-variants.{Accept, Refuse}
 use Rattle.intervals.proofs.Refusals.{Goes, accepts, unless, told, without}
-use Rattle.operators.specs.Operators.{Operator, declare, reinstate, look, allowedLevel, permit, ownRefusals, judgeOperator, operatorVerdict}
-use Rattle.operators.specs.Operators.{operatorRefusal, operatedOf, lookedOf, lookValues, Looks}
+use Rattle.operators.specs.Operators.{Operator, declare, reinstate, ask, look, reason, allowedLevel, permit, ownRefusals, judgeOperator}
+use Rattle.operators.specs.Operators.{operatorVerdict, operatorRefusal, operatedOf, lookedOf, reasonedOf, lookValues, Looks}
+use Rattle.operators.specs.Operators.{reasonTold, spanTold, Reasons}
 use Rattle.operators.specs.declared.Looked.{Looked}
+use Rattle.operators.specs.declared.Reasoned.{Reasoned}
 
-module _ (unidirectional : Bool) where
-  permit-goes : (op : Operator) (q : Point) → Goes (permit unidirectional op q) (ownRefusals unidirectional op q)
+module _ (plant : Plant) (i : ℕ) where
+  permit-goes : (op : Operator) (q : Point) → Goes (permit plant i op q) (ownRefusals plant i op q)
   unfolding permit ownRefusals
-  permit-goes (declare level) q = unless 11 (unless 22 accepts (eqb (q .status) 2 || eqb (q .status) 3)) (allowedLevel unidirectional level)
+  permit-goes (declare level) q =
+      unless 11 (unless 22 accepts (eqb (q .status) 2 || eqb (q .status) 3)) (allowedLevel (isUnidirectionalAt plant i) level)
   permit-goes reinstate q = unless 23 accepts (eqb (q .status) 4)
-  permit-goes look q = accepts
+  permit-goes (ask look) q = accepts
+  permit-goes (ask reason) q = unless 36 accepts (eqb (q .status) 4)
 
   -- the numbers of a call's own refusals
   pub own-without : (op : Operator) (q : Point)
-      → (without 0 (ownRefusals unidirectional op q) ≡ true) × (without 20 (ownRefusals unidirectional op q) ≡ true)
+      → (without 0 (ownRefusals plant i op q) ≡ true) × (without 20 (ownRefusals plant i op q) ≡ true)
   unfolding ownRefusals
   own-without (declare level) q = (refl, refl)
   own-without reinstate q = (refl, refl)
-  own-without look q = (refl, refl)
+  own-without (ask look) q = (refl, refl)
+  own-without (ask reason) q = (refl, refl)
 
 pub operator-goes : (plant : Plant) (op : Operator) (p : ℕ) (q : Point)
-    → Goes (judgeOperator plant op p q) ((10, not (named plant p)) ∷ ownRefusals (isUnidirectionalAt plant (place p)) op q)
-operator-goes plant op p q = unless 10 (permit-goes (isUnidirectionalAt plant (place p)) op q) (named plant p)
+    → Goes (judgeOperator plant op p q) ((10, not (named plant p)) ∷ ownRefusals plant (place p) op q)
+operator-goes plant op p q = unless 10 (permit-goes plant (place p) op q) (named plant p)
 
 shown-values : (v : Verdict) (q : Point) → decide v (λ k. normal) q ≡ lookValues v q
 unfolding lookValues
 shown-values Accept q = refl
 shown-values (Refuse k) q = refl
 
-module _ (m : Monitor) (p : ℕ) where
-  abbrev unidirectional : Bool
-  unidirectional = isUnidirectionalAt (m .plant) (place p)
+reason-told : (v : Verdict) (q : Point) → decide v (λ k. ByOperator) (q .reason) ≡ reasonTold v q
+unfolding reasonTold
+reason-told Accept q = refl
+reason-told (Refuse k) q = refl
 
+span-told : (v : Verdict) (q : Point) → spanOf (decide v (λ k. ByOperator) (q .reason)) ≡ spanTold v q
+unfolding spanTold spanOf
+span-told Accept q = refl
+span-told (Refuse k) q = refl
+
+module _ (m : Monitor) (p : ℕ) where
   goes : (op : Operator)
       → Goes (operatorVerdict op m p)
-      ((20, not (soundOf m)) ∷ (10, not (named (m .plant) p)) ∷ ownRefusals unidirectional op (pointAt m (place p)))
+      ((20, not (soundOf m)) ∷ (10, not (named (m .plant) p)) ∷ ownRefusals (m .plant) (place p) op (pointAt m (place p)))
   unfolding operatorVerdict
   goes op = unless 20 (operator-goes (m .plant) op p (pointAt m (place p))) (soundOf m)
 
   pub operator-told : (op : Operator) → verdictNumber (operatorVerdict op m p) ≡ 0 → operatorVerdict op m p ≡ Accept
-  operator-told op = told _ (goes op) (own-without unidirectional op (pointAt m (place p)) .0)
+  operator-told op = told _ (goes op) (own-without (m .plant) (place p) op (pointAt m (place p)) .0)
 
   pub operator-answered : (op : Operator) (r : Stepped) → r ≡ operatedOf op m p → Answered (operatedOf op m p) (operatorRefusal op m p) r
   unfolding operatedOf operatorRefusal
@@ -66,6 +79,18 @@ module _ (m : Monitor) (p : ℕ) where
   looks r e =
       record {
         result = e;
-        number = rw e (goes look .number);
-        values = rw e (shown-values (operatorVerdict look m p) (pointAt m (place p)));
+        number = rw e (goes (ask look) .number);
+        values = rw e (shown-values (operatorVerdict (ask look) m p) (pointAt m (place p)));
+      }
+
+  -- what reason promises of its result
+  pub reasons : (r : Reasoned) → r ≡ reasonedOf m p → Reasons m p r
+  unfolding reasonedOf operatorRefusal
+  reasons r e =
+      let v = operatorVerdict (ask reason) m p in
+      record {
+        result = e;
+        number = rw e (goes (ask reason) .number);
+        told = rw e (reason-told v (pointAt m (place p)));
+        span = rw e (span-told v (pointAt m (place p)));
       }

@@ -1,4 +1,4 @@
--- The operator calls (01, "Report and operator calls"): what is permitted on a point's record, what it becomes, and what is
+-- The operator calls (01, "Report and operator calls"; 02, 2026-06): what is permitted on a point's record, what it becomes, and what is
 -- answered.
 use mathlib.Core.Path.{_≡_}
 use mathlib.Core.Bool.{Bool, cond, _&&_, _||_, not}
@@ -10,7 +10,10 @@ use lib.ListN.{set}
 use Rattle.trace.specs.Refusals.{Refusal, firstOf}
 use Rattle.register.specs.declared.Plant.{Plant}
 use Rattle.marks.specs.Levels.{isDispatchable}
-use Rattle.points.specs.Points.{normal, declaredAt}
+use Rattle.points.specs.Points.{normal, declaredAt, spanOf}
+use Rattle.points.specs.declared.Span.{Span}
+use Rattle.points.specs.declared.Reason.{Reason}
+use Rattle.points.specs.declared.Reason.the-variants.{ByOperator}
 use Rattle.points.specs.declared.Point.{Point}
 use Rattle.intervals.specs.Plants.{place, named, isUnidirectionalAt}
 use Rattle.intervals.specs.Monitors.{pointAt, soundOf}
@@ -20,11 +23,18 @@ use Rattle.intervals.specs.declared.Verdict.{Verdict}
 use Rattle.intervals.specs.declared.Verdict.the-variants.{Accept, Refuse}
 use Rattle.intervals.specs.declared.Stepped.{Stepped}
 use Rattle.operators.specs.declared.Looked.{Looked}
+use Rattle.operators.specs.declared.Reasoned.{Reasoned}
+
+-- what is asked of a point: nothing of the state changes. A later call that names a point and changes nothing is one case more here, and
+-- one in each definition by cases on questions: what permits it, its own refusals and its reply
+pub data Question : Type 0 where
+  look : Question
+  reason : Question
 
 pub data Operator : Type 0 where
   declare : (level : ℤ) → Operator
   reinstate : Operator
-  look : Operator
+  ask : Question → Operator
 
 -- 11: "level beyond ±128,000,000", and for the point of a unit of kind 1, 2 or 4 "An operator's negative level for such a unit is refused with
 -- 11" (02, 2026-02)
@@ -36,25 +46,26 @@ abbrev pub permitDeclare : Bool → ℤ → Point → Verdict
 permitDeclare unidirectional level q =
     cond (allowedLevel unidirectional level) (cond (eqb (q .status) 2 || eqb (q .status) 3) Accept (Refuse 22)) (Refuse 11)
 
--- 23: "reinstate on status other than 4"
-abbrev pub permitReinstate : Point → Verdict
-permitReinstate q = cond (eqb (q .status) 4) Accept (Refuse 23)
+-- 23: "reinstate on status other than 4"; 36: "point not declared" (02, 2026-06)
+abbrev pub permitDeclared : ℕ → Point → Verdict
+permitDeclared refusal q = cond (eqb (q .status) 4) Accept (Refuse refusal)
 
--- what is permitted on a point's record, whether the point is that of a unit of kind 1, 2 or 4 or not
-unfoldable pub permit : Bool → Operator → Point → Verdict
-permit unidirectional (declare level) q = permitDeclare unidirectional level q
-permit unidirectional reinstate q = permitReinstate q
-permit unidirectional look q = Accept
+-- what is permitted on the record of the point at a place
+unfoldable pub permit : Plant → ℕ → Operator → Point → Verdict
+permit plant i (declare level) q = permitDeclare (isUnidirectionalAt plant i) level q
+permit plant i reinstate q = permitDeclared 23 q
+permit plant i (ask look) q = Accept
+permit plant i (ask reason) q = permitDeclared 36 q
 
 -- "Declare (point, level): status 4, declared at that level, runs 0. Reinstate (point): status 0, runs 0, level 0"
 unfoldable pub change : Operator → Point → Point
-change (declare level) q = declaredAt level
+change (declare level) q = declaredAt level ByOperator
 change reinstate q = normal
-change look q = q
+change (ask question) q = q
 
 -- 10 goes before what the record says, 20 before all
 abbrev pub judgeOperator : Plant → Operator → ℕ → Point → Verdict
-judgeOperator plant op p q = cond (named plant p) (permit (isUnidirectionalAt plant (place p)) op q) (Refuse 10)
+judgeOperator plant op p q = cond (named plant p) (permit plant (place p) op q) (Refuse 10)
 
 -- 20 and 10, which every operator call is tested for
 unfoldable pub locateOf : Monitor → ℕ → Verdict
@@ -63,21 +74,22 @@ locateOf m p = cond (soundOf m) (cond (named (m .plant) p) Accept (Refuse 10)) (
 unfoldable pub operatorVerdict : Operator → Monitor → ℕ → Verdict
 operatorVerdict op m p = cond (soundOf m) (judgeOperator (m .plant) op p (pointAt m (place p))) (Refuse 20)
 
--- a call's own refusals, on the record of the point that it names: "the list above in rising number", here 11, "then these", here 22 and 23
-unfoldable pub ownRefusals : Bool → Operator → Point → List Refusal
-ownRefusals unidirectional (declare level) q =
-    (11, not (allowedLevel unidirectional level)) ∷ (22, not (eqb (q .status) 2 || eqb (q .status) 3)) ∷ []
-ownRefusals unidirectional reinstate q = (23, not (eqb (q .status) 4)) ∷ []
-ownRefusals unidirectional look q = []
+-- a call's own refusals, on the record of the point that it names: "the list above in rising number", here 11, "then these", here 22, 23 and 36
+unfoldable pub ownRefusals : Plant → ℕ → Operator → Point → List Refusal
+ownRefusals plant i (declare level) q =
+    (11, not (allowedLevel (isUnidirectionalAt plant i) level)) ∷ (22, not (eqb (q .status) 2 || eqb (q .status) 3)) ∷ []
+ownRefusals plant i reinstate q = (23, not (eqb (q .status) 4)) ∷ []
+ownRefusals plant i (ask look) q = []
+ownRefusals plant i (ask reason) q = (36, not (eqb (q .status) 4)) ∷ []
 
--- the number in 01 of the first refusal that applies, 0 where none does: "Order: 20, then the list above in rising number", here 10, then
--- the call's own
+-- the number of the first refusal that applies, 0 where none does: "Order: 20, then the list above in rising number", here 10, then the
+-- call's own
 unfoldable pub operatorRefusal : Operator → Monitor → ℕ → ℕ
 operatorRefusal op m p =
     firstOf
     ((20, not (soundOf m))
     ∷ (10, not (named (m .plant) p))
-    ∷ ownRefusals (isUnidirectionalAt (m .plant) (place p)) op (pointAt m (place p)))
+    ∷ ownRefusals (m .plant) (place p) op (pointAt m (place p)))
 
 -- the state with one point's record written
 unfoldable pub stored : Monitor → ℕ → Point → Monitor
@@ -99,7 +111,7 @@ operatedOf op m p =
 -- at a place where a point's record stands
 unfoldable pub operatedAt : Operator → Monitor → ℕ → Stepped
 operatedAt op m i =
-    let v = permit (isUnidirectionalAt (m .plant) i) op (pointAt m i) in
+    let v = permit (m .plant) i op (pointAt m i) in
     record { verdict = v; monitor = decide v (λ k. m) (stored m i (change op (pointAt m i))) }
 
 abbrev pub declareAt : Monitor → ℕ → ℤ → Stepped
@@ -111,6 +123,11 @@ reinstateAt m i = operatedAt reinstate m i
 unfoldable pub lookedAt : Monitor → ℕ → Looked
 lookedAt m i = record { verdict = Accept; point = pointAt m i; monitor = m }
 
+unfoldable pub reasonedAt : Monitor → ℕ → Reasoned
+reasonedAt m i =
+    let v = permitDeclared 36 (pointAt m i) in
+    record { verdict = v; reason = decide v (λ k. ByOperator) (pointAt m i .reason); monitor = m }
+
 abbrev pub declareOf : Monitor → ℕ → ℤ → Stepped
 declareOf m p level = operatedOf (declare level) m p
 
@@ -120,8 +137,15 @@ reinstateOf m p = operatedOf reinstate m p
 -- "Look (point): status, runs, level"; zero values where it is refused. A look changes nothing
 unfoldable pub lookedOf : Monitor → ℕ → Looked
 lookedOf m p =
-    let v = operatorVerdict look m p in
+    let v = operatorVerdict (ask look) m p in
     record { verdict = v; point = decide v (λ k. normal) (pointAt m (place p)); monitor = m }
+
+-- "A new call on a declared point returns small run, large run or operator" (02, 2026-06); the operator, whose numbers are both 0, where
+-- it is refused. "Like a look" it changes nothing
+unfoldable pub reasonedOf : Monitor → ℕ → Reasoned
+reasonedOf m p =
+    let v = operatorVerdict (ask reason) m p in
+    record { verdict = v; reason = decide v (λ k. ByOperator) (pointAt m (place p) .reason); monitor = m }
 
 -- the values of a look, status, runs and level: the point's own, "zero values" where it is refused
 unfoldable pub lookValues : Verdict → Point → Point
@@ -131,5 +155,21 @@ lookValues (Refuse k) q = normal
 -- what look promises
 pub record Looks (m : Monitor) (p : ℕ) (r : Looked) : Type 0 where
   pub result : r ≡ lookedOf m p
-  pub number : verdictNumber (r .verdict) ≡ operatorRefusal look m p
+  pub number : verdictNumber (r .verdict) ≡ operatorRefusal (ask look) m p
   pub values : r .point ≡ lookValues (r .verdict) (pointAt m (place p))
+
+-- the reason that is told, and its two numbers
+unfoldable pub reasonTold : Verdict → Point → Reason
+reasonTold Accept q = q .reason
+reasonTold (Refuse k) q = ByOperator
+
+unfoldable pub spanTold : Verdict → Point → Span
+spanTold Accept q = spanOf (q .reason)
+spanTold (Refuse k) q = record { first = 0; last = 0 }
+
+-- what reason promises
+pub record Reasons (m : Monitor) (p : ℕ) (r : Reasoned) : Type 0 where
+  pub result : r ≡ reasonedOf m p
+  pub number : verdictNumber (r .verdict) ≡ operatorRefusal (ask reason) m p
+  pub told : r .reason ≡ reasonTold (r .verdict) (pointAt m (place p))
+  pub span : spanOf (r .reason) ≡ spanTold (r .verdict) (pointAt m (place p))

@@ -1,8 +1,9 @@
-// The operator calls (01, "Report and operator calls").
+// The operator calls (01, "Report and operator calls"; 02, 2026-06).
 use intervals::Monitor;
 use intervals::Stepped;
 use intervals::Verdict;
 use points::Point;
+use points::Reason;
 use register::Plant;
 ghost use mathlib.Core.Path.{_≡_};
 ghost use mathlib.Core.Bool.{_&&_};
@@ -10,13 +11,20 @@ ghost use Prim.Native.Nat.{_+_, _≤_, _<_};
 ghost use lib.Dec.{leb};
 ghost use Rattle.intervals.specs.Plants.{isUnidirectionalAt};
 ghost use Rattle.intervals.specs.Intervals.{Answered};
-ghost use Rattle.operators.specs.Operators.{declare, reinstate, operatorRefusal, allowedLevel, permitDeclare, permitReinstate, locateOf, stored};
-ghost use Rattle.operators.specs.Operators.{declareAt, reinstateAt, lookedAt, declareOf, reinstateOf, Looks};
+ghost use Rattle.operators.specs.Operators.{declare, reinstate, operatorRefusal, allowedLevel, permitDeclare, permitDeclared, locateOf, stored};
+ghost use Rattle.operators.specs.Operators.{declareAt, reinstateAt, lookedAt, reasonedAt, declareOf, reinstateOf, Looks, Reasons};
 
 // What a look answers: the point's record, or zeros where it is refused. The state is the one that came in.
 pub struct Looked {
     pub verdict: Verdict,
     pub point: Point,
+    pub monitor: Monitor,
+}
+
+// Why a point is declared, or the operator where the call is refused. The state is the one that came in.
+pub struct Reasoned {
+    pub verdict: Verdict,
+    pub reason: Reason,
     pub monitor: Monitor,
 }
 
@@ -74,14 +82,14 @@ fn permit_declare(unidirectional: bool, level: i32, q: Point) -> Verdict
     Verdict::Refuse(11)
 }
 
-// 23.
-fn permit_reinstate(q: Point) -> Verdict
-    ensures { λ r. ⌜ r ≡ permitReinstate q ⌝ }
+// 23 and 36: a declared point.
+fn permit_declared(q: Point, refusal: u32) -> Verdict
+    ensures { λ r. ⌜ r ≡ permitDeclared refusal q ⌝ }
 {
     if q.status == 4 {
         return Verdict::Accept;
     }
-    Verdict::Refuse(23)
+    Verdict::Refuse(refusal)
 }
 
 fn store(m: Monitor, i: usize, q: Point) -> Monitor
@@ -102,7 +110,7 @@ fn declare_at(m: Monitor, i: usize, level: i32) -> Stepped
     match verdict {
         Verdict::Accept => Stepped {
             verdict,
-            monitor: store(m, i, q.declare(level)),
+            monitor: store(m, i, q.declare(level, Reason::ByOperator)),
         },
         Verdict::Refuse(_) => Stepped {
             verdict,
@@ -116,7 +124,7 @@ fn reinstate_at(m: Monitor, i: usize) -> Stepped
     ensures { λ r. ⌜ r ≡ reinstateAt m i ⌝ }
 {
     let q = m.points[i];
-    let verdict = permit_reinstate(q);
+    let verdict = permit_declared(q, 23);
     match verdict {
         Verdict::Accept => Stepped {
             verdict,
@@ -178,6 +186,42 @@ pub fn look(m: Monitor, point: u32) -> Looked
         Verdict::Refuse(_) => Looked {
             verdict: found,
             point: points::normal_point(),
+            monitor: m,
+        },
+    }
+}
+
+fn reason_at(m: Monitor, i: usize) -> Reasoned
+    requires { ⌜ i < 80 ⌝ }
+    ensures { λ r. ⌜ r ≡ reasonedAt m i ⌝ }
+{
+    let q = m.points[i];
+    let verdict = permit_declared(q, 36);
+    let reason = q.reason;
+    match verdict {
+        Verdict::Accept => Reasoned {
+            verdict,
+            reason,
+            monitor: m,
+        },
+        Verdict::Refuse(_) => Reasoned {
+            verdict,
+            reason: Reason::ByOperator,
+            monitor: m,
+        },
+    }
+}
+
+// Why a declared point is declared. A refusal, 20, 10 or 36, tells the operator. The state stays as it is.
+pub fn reason(m: Monitor, point: u32) -> Reasoned
+    ensures { λ r. ⌜ Reasons m point r ⌝ }
+{
+    let found = locate(m, point);
+    match found {
+        Verdict::Accept => reason_at(m, (point - 1) as usize),
+        Verdict::Refuse(_) => Reasoned {
+            verdict: found,
+            reason: Reason::ByOperator,
             monitor: m,
         },
     }

@@ -9,7 +9,7 @@ use Rattle.marks.specs.declared.Assessment.{Assessment}
 use Rattle.points.specs.declared.Point.{Point}
 
 abbrev pub headOf : ℕ → Point → List ℕ
-headOf mark p = p .status ∷ mark ∷ p .small ∷ p .large ∷ []
+headOf mark p = p .status ∷ mark ∷ p .small .count ∷ p .large .count ∷ []
 
 -- "status; mark ..; small run; large run; error (i32); small trigger (u32); level (i32)"
 unfoldable pub recordOf : Assessment → Point → List ℕ

@@ -35,7 +35,7 @@ use Rattle.marks.proofs.Thresholds.{small-bounded}
 use Rattle.points.specs.declared.Point.{Point}
 use Rattle.points.proofs.Levels.{level-after}
 use Rattle.intervals.specs.Plants.{total, place, placesOf}
-use Rattle.intervals.specs.Assessments.{headerOf, isAutomatic, ruleOf, sightAt, assessmentAt}
+use Rattle.intervals.specs.Assessments.{headerOf, numberOf, isAutomatic, ruleOf, sightAt, assessmentAt}
 use Rattle.intervals.specs.Monitors.{keptAt, pointAt, soundOf}
 use Rattle.intervals.specs.Intervals.{freshIn, assessmentIn, pointAfter}
 use Rattle.intervals.specs.declared.Monitor.{Monitor}
@@ -128,7 +128,7 @@ module _ (m : Monitor) (sound : soundOf m ≡ true) (buffer : List ℕ) where
   level-in : (i : ℕ) → i < total (m .plant) → SFits w32 (pointAt m i .level) → SFits w32 (pointAfter m buffer i .level)
   unfolding pointAfter
   level-in i l stored =
-      level-after (SFits w32) (ruleOf (m .plant) (isAutomatic (headerOf buffer))) (assessmentIn m buffer i) (pointAt m i) stored
+      level-after (SFits w32) (ruleOf (m .plant) (isAutomatic (headerOf buffer))) (numberOf (headerOf buffer)) (assessmentIn m buffer i) (pointAt m i) stored
       (size-fits w32 (assessmentIn m buffer i .level) (small-in i l .level) (lit< tt))
       (size-fits w32 (pos 0) {k = 0} (lit≤ tt) (lit< tt))
 

@@ -41,8 +41,8 @@ shownOf interval point a p =
     ∷ decimalOf point
     ∷ decimalOf (p .status)
     ∷ decimalOf (markNumber (a .mark))
-    ∷ decimalOf (p .small)
-    ∷ decimalOf (p .large)
+    ∷ decimalOf (p .small .count)
+    ∷ decimalOf (p .large .count)
     ∷ wholeOf (a .error)
     ∷ decimalOf (a .trigger)
     ∷ wholeOf (p .level)

@@ -5,7 +5,7 @@ use mathlib.Core.List.{List, []}
 use Prim.Native.Nat.{ℕ}
 use Rattle.intervals.specs.Assessments.{headerOf, numberOf}
 use Rattle.intervals.specs.declared.Monitor.{Monitor}
-use Rattle.monitor.specs.Calls.{Outcome, refusal, reported, done, looked}
+use Rattle.monitor.specs.Calls.{Outcome, refusal, reported, done, looked, reasoned}
 use Rattle.text.specs.Lines.{linesOf, refusedOf}
 use Rattle.program.specs.Steps.{Outcome as Step}
 
@@ -16,6 +16,7 @@ programText buffer (refusal k) = refusedOf k
 programText buffer (reported report) = linesOf (numberOf (headerOf buffer)) report
 programText buffer done = []
 programText buffer (looked status small large level) = []
+programText buffer (reasoned why) = []
 
 -- whether the run goes on after an outcome: a refusal "ends the run", and no other outcome does
 abbrev pub goesOn : Outcome → Bool
@@ -23,6 +24,7 @@ goesOn (refusal k) = false
 goesOn (reported report) = true
 goesOn done = true
 goesOn (looked status small large level) = true
+goesOn (reasoned why) = true
 
 -- a step that comes to a next state, after a buffer with this outcome
 abbrev pub shownBy : Monitor → List ℕ → Outcome → Step

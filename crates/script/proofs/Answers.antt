@@ -8,6 +8,9 @@ use borrow.Author.Tests.{eq-eqb, ne-eqb}
 use lib.IntN.{ℤ}
 use lib.ListN.{length}
 use Rattle.register.specs.Registers.{answerNumber, answerVisits}
+use Rattle.points.specs.Points.{spanOf}
+use Rattle.points.specs.declared.Span.{Span}
+use Rattle.points.specs.declared.Reason.{Reason}
 use Rattle.intervals.specs.Assessments.{headerOf, numberOf}
 use Rattle.intervals.specs.Intervals.{decide, verdictNumber, intervalVerdict, intervalOf, monitorAfter, reportAfter, reportOf}
 use Rattle.intervals.specs.declared.Monitor.{Monitor}
@@ -17,28 +20,36 @@ use Rattle.intervals.specs.declared.Verdict.the-variants.{Accept, Refuse}
 use Rattle.intervals.proofs.Refusals.{interval-told}
 use Rattle.intervals.proofs.States.{units-small, aggregates-small}
 use Rattle.intervals.proofs.Verdicts.{ready, report-size}
-use Rattle.operators.specs.Operators.{Operator, declare, reinstate, look, operatedOf, lookedOf}
+use Rattle.operators.specs.Operators.{Operator, declare, reinstate, ask, look, reason, operatedOf, lookedOf, reasonedOf}
 use Rattle.operators.specs.declared.Looked.{Looked}
+use Rattle.operators.specs.declared.Reasoned.{Reasoned}
 use Rattle.monitor.specs.Loading.{loadOf}
 use Rattle.monitor.specs.Calls.{interval, operate, next}
 use Rattle.monitor.specs.declared.Loaded.{Loaded}
 use Rattle.text.specs.Numbers.{ascii}
-use Rattle.text.specs.Lines.{line, numberedOf, standingOf}
+use Rattle.text.specs.Lines.{line, numberedOf, spannedOf, standingOf}
 use Rattle.text.specs.Puts.{Put}
 use Rattle.program.specs.Steps.{Outcome, Steps}
 use Rattle.program.proofs.Turns.{turned, refused-number, accepted-last}
-use Rattle.script.specs.Texts.{answeredBy, loadText, acceptedText, intervalText, declareText, reinstateText, lookText, operatorText, callText}
+use Rattle.script.specs.Texts.{answeredBy, loadText, acceptedText, intervalText, declareText, reinstateText, lookText}
+use Rattle.script.specs.Texts.{reasonWords, reasonLine, reasonText, operatorText, callText}
 use Rattle.script.specs.Steps.{madeLoad, madeCall}
 
 -- ---- the text, by the number
 
-module _ {out : List ℕ} {at next : ℕ} {after : List ℕ} (number : ℕ) (accepted refused : List ℕ) where
-  pub put-accepted : number ≡ 0 → Put out at accepted next after → Put out at (answeredBy number accepted refused) next after
-  put-accepted e put = rw (eq-eqb number 0 e) put
+module _ {out : List ℕ} {at next : ℕ} {after : List ℕ} where
+  module _ (number : ℕ) (accepted refused : List ℕ) where
+    pub put-accepted : number ≡ 0 → Put out at accepted next after → Put out at (answeredBy number accepted refused) next after
+    put-accepted e put = rw (eq-eqb number 0 e) put
 
-  pub put-refused : (number ≡ 0 → ⊥) → Put out at (numberedOf refused number) next after
-      → Put out at (answeredBy number accepted refused) next after
-  put-refused e put = rw (ne-eqb number 0 e) put
+    pub put-refused : (number ≡ 0 → ⊥) → Put out at (numberedOf refused number) next after
+        → Put out at (answeredBy number accepted refused) next after
+    put-refused e put = rw (ne-eqb number 0 e) put
+
+  -- a reason's line, from its words and its numbers
+  pub put-reason : (why : Reason) (span : Span) → span ≡ spanOf why → Put out at (spannedOf (reasonWords why) (span .first) (span .last)) next after
+      → Put out at (reasonLine why) next after
+  put-reason why span is put = rw (← is) put
 
 -- ---- an accepted interval
 
@@ -116,19 +127,32 @@ module _ (m : Monitor) (out after : List ℕ) (size : ℕ) where
     reinstated is put = operated reinstate (ap (λ (s : Stepped). s .monitor) is) (rw (sym is, sym told) put)
 
   module _ (p : ℕ) (r : Looked) (is : r ≡ lookedOf m p) (number : ℕ) (told : number ≡ verdictNumber (r .verdict)) where
-    looked : Put out 0 (operatorText look m p) size after → Made (madeCall m (operate look p)) (r .monitor)
-    looked put = turned (madeCall m (operate look p)) (r .monitor) true (ap (λ (l : Looked). l .monitor) is) refl put
+    looked : Put out 0 (operatorText (ask look) m p) size after → Made (madeCall m (operate (ask look) p)) (r .monitor)
+    looked put = turned (madeCall m (operate (ask look) p)) (r .monitor) true (ap (λ (l : Looked). l .monitor) is) refl put
 
     pub look-accepted : number ≡ 0
-        → Put out 0 (standingOf (ascii "look accepted") (r .point .status) (r .point .small) (r .point .large) (r .point .level)) size after
-        → Made (madeCall m (operate look p)) (r .monitor)
+        → Put out 0 (standingOf (ascii "look accepted") (r .point .status) (r .point .small .count) (r .point .large .count) (r .point .level)) size after
+        → Made (madeCall m (operate (ask look) p)) (r .monitor)
     unfolding lookText
     look-accepted e put = looked (rw (sym is, sym told) (put-accepted number _ (ascii "look refused") e put))
 
     pub look-refused : (number ≡ 0 → ⊥) → Put out 0 (numberedOf (ascii "look refused") number) size after
-        → Made (madeCall m (operate look p)) (r .monitor)
+        → Made (madeCall m (operate (ask look) p)) (r .monitor)
     unfolding lookText
     look-refused e put = looked (rw (sym is, sym told) (put-refused number _ (ascii "look refused") e put))
+
+  module _ (p : ℕ) (r : Reasoned) (is : r ≡ reasonedOf m p) (number : ℕ) (told : number ≡ verdictNumber (r .verdict)) where
+    reasoned : Put out 0 (operatorText (ask reason) m p) size after → Made (madeCall m (operate (ask reason) p)) (r .monitor)
+    reasoned put = turned (madeCall m (operate (ask reason) p)) (r .monitor) true (ap (λ (l : Reasoned). l .monitor) is) refl put
+
+    pub reason-accepted : number ≡ 0 → Put out 0 (reasonLine (r .reason)) size after → Made (madeCall m (operate (ask reason) p)) (r .monitor)
+    unfolding reasonText
+    reason-accepted e put = reasoned (rw (sym is, sym told) (put-accepted number _ (ascii "reason refused") e put))
+
+    pub reason-refused : (number ≡ 0 → ⊥) → Put out 0 (numberedOf (ascii "reason refused") number) size after
+        → Made (madeCall m (operate (ask reason) p)) (r .monitor)
+    unfolding reasonText
+    reason-refused e put = reasoned (rw (sym is, sym told) (put-refused number _ (ascii "reason refused") e put))
 
 -- ---- what the report buffer held does not matter
 

@@ -9,7 +9,7 @@ use lib.ListN.{length, drop, replicate}
 use Rattle.wire.specs.Fields.{wordAt, wholeAt}
 use Rattle.frames.specs.Frames.{isFrame}
 use Rattle.intervals.specs.declared.Monitor.{Monitor}
-use Rattle.operators.specs.Operators.{declare, reinstate, look}
+use Rattle.operators.specs.Operators.{declare, reinstate, ask, look, reason}
 use Rattle.monitor.specs.Calls.{interval, operate}
 use Rattle.text.proofs.Puts.{nothing}
 use Rattle.program.specs.Steps.{Steps}
@@ -76,13 +76,19 @@ module _ (tag point : ℕ) where
   unfolding pointItem
   point-reinstate e = rw (eq-eqb tag 4 e)
 
-  pub point-look : (tag ≡ 4 → ⊥) → tag ≡ 5 → pointItem tag point ≡ calls (operate look point)
-  unfolding pointItem
-  point-look e f = rw (ne-eqb tag 4 e, eq-eqb tag 5 f)
+  module _ (e : tag ≡ 4 → ⊥) where
+    pub point-look : tag ≡ 5 → pointItem tag point ≡ calls (operate (ask look) point)
+    unfolding pointItem
+    point-look f = rw (ne-eqb tag 4 e, eq-eqb tag 5 f)
 
-  pub point-unread : (tag ≡ 4 → ⊥) → (tag ≡ 5 → ⊥) → pointItem tag point ≡ unreadable
-  unfolding pointItem
-  point-unread e f = rw (ne-eqb tag 4 e, ne-eqb tag 5 f)
+    module _ (f : tag ≡ 5 → ⊥) where
+      pub point-reason : tag ≡ 6 → pointItem tag point ≡ calls (operate (ask reason) point)
+      unfolding pointItem
+      point-reason g = rw (ne-eqb tag 4 e, ne-eqb tag 5 f, eq-eqb tag 6 g)
+
+      pub point-unread : (tag ≡ 6 → ⊥) → pointItem tag point ≡ unreadable
+      unfolding pointItem
+      point-unread g = rw (ne-eqb tag 4 e, ne-eqb tag 5 f, ne-eqb tag 6 g)
 
 -- ---- the whole
 

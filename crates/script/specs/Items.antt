@@ -4,6 +4,7 @@
 --   3 declare     u32 point, i32 level
 --   4 reinstate   u32 point
 --   5 look        u32 point
+--   6 reason      u32 point
 use mathlib.Core.Bool.{Bool, cond, _&&_}
 use mathlib.Core.List.{List}
 use Prim.Native.Nat.{ℕ}
@@ -11,7 +12,7 @@ use lib.Dec.{leb, eqb}
 use lib.ListN.{length, drop, replicate}
 use Rattle.wire.specs.Fields.{wordAt, wholeAt}
 use Rattle.frames.specs.Frames.{isFrame}
-use Rattle.operators.specs.Operators.{declare, reinstate, look}
+use Rattle.operators.specs.Operators.{declare, reinstate, ask, look, reason}
 use Rattle.monitor.specs.Calls.{Call, interval, operate}
 
 -- a load, a call of demand 3's lists, or bytes that are neither
@@ -38,7 +39,9 @@ declareItem payload = when (eqb (length payload) 8) (calls (operate (declare (wh
 
 -- the calls that take a point alone
 unfoldable pub pointItem : ℕ → ℕ → Item
-pointItem tag point = cond (eqb tag 4) (calls (operate reinstate point)) (when (eqb tag 5) (calls (operate look point)))
+pointItem tag point =
+    cond (eqb tag 4) (calls (operate reinstate point))
+    (cond (eqb tag 5) (calls (operate (ask look) point)) (when (eqb tag 6) (calls (operate (ask reason) point))))
 
 unfoldable pub operatorItem : ℕ → List ℕ → Item
 operatorItem tag payload =

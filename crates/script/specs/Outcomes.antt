@@ -4,32 +4,31 @@ use mathlib.Core.List.{List, [], _∷_, _++_}
 use Prim.Native.Nat.{ℕ}
 use Rattle.intervals.specs.Assessments.{headerOf, numberOf}
 use Rattle.intervals.specs.declared.Monitor.{Monitor}
-use Rattle.operators.specs.Operators.{Operator, declare, reinstate, look}
-use Rattle.monitor.specs.Calls.{Call, interval, operate, Outcome, refusal, reported, done, looked, next}
+use Rattle.operators.specs.Operators.{Operator, declare, reinstate, ask, look, reason}
+use Rattle.monitor.specs.Calls.{Call, interval, operate, Outcome, refusal, reported, done, looked, reasoned, next}
 use Rattle.text.specs.Numbers.{ascii, decimalOf}
 use Rattle.text.specs.Lines.{line, numberedOf, standingOf}
-use Rattle.script.specs.Texts.{acceptedText, callText}
+use Rattle.script.specs.Texts.{acceptedText, reasonLine, callText}
 
 -- an operator call's name in the text
 abbrev pub nameOf : Operator → List ℕ
 nameOf (declare level) = ascii "declare"
 nameOf reinstate = ascii "reinstate"
-nameOf look = ascii "look"
+nameOf (ask look) = ascii "look"
+nameOf (ask reason) = ascii "reason"
 
--- by the call and its outcome; nothing for an outcome that the call cannot have
+-- by the call and its outcome; nothing for an interval's outcome that is an operator call's, and the other way about
 abbrev pub outcomeText : Call → Outcome → List ℕ
 outcomeText (interval buffer report) (refusal k) = numberedOf (ascii "interval refused") k
 outcomeText (interval buffer report) (reported bytes) = acceptedText (numberOf (headerOf buffer)) bytes
 outcomeText (interval buffer report) done = []
 outcomeText (interval buffer report) (looked status small large level) = []
+outcomeText (interval buffer report) (reasoned why) = []
 outcomeText (operate op p) (refusal k) = line (nameOf op ∷ ascii "refused" ∷ decimalOf k ∷ [])
 outcomeText (operate op p) (reported bytes) = []
-outcomeText (operate (declare level) p) done = line (ascii "declare accepted" ∷ [])
-outcomeText (operate reinstate p) done = line (ascii "reinstate accepted" ∷ [])
-outcomeText (operate look p) done = []
-outcomeText (operate (declare asked) p) (looked status small large level) = []
-outcomeText (operate reinstate p) (looked status small large level) = []
-outcomeText (operate look p) (looked status small large level) = standingOf (ascii "look accepted") status small large level
+outcomeText (operate op p) done = line (nameOf op ∷ ascii "accepted" ∷ [])
+outcomeText (operate op p) (looked status small large level) = standingOf (ascii "look accepted") status small large level
+outcomeText (operate op p) (reasoned why) = reasonLine why
 
 -- the texts of a list's calls, one after the other, each call made in the state that the call before it returned
 abbrev pub texts : Monitor → List Call → List ℕ

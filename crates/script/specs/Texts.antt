@@ -6,14 +6,17 @@ use lib.Dec.{eqb}
 use lib.ListN.{length}
 use Rattle.register.specs.Registers.{answerNumber, answerVisits}
 use Rattle.register.specs.declared.Answer.{Answer}
+use Rattle.points.specs.Points.{spanOf}
+use Rattle.points.specs.declared.Reason.{Reason}
+use Rattle.points.specs.declared.Reason.the-variants.{ByOperator, BySmallRun, ByLargeRun}
 use Rattle.points.specs.declared.Point.{Point}
 use Rattle.intervals.specs.Assessments.{headerOf, numberOf}
 use Rattle.intervals.specs.Intervals.{verdictNumber, intervalOf, reportOf}
 use Rattle.intervals.specs.declared.Monitor.{Monitor}
-use Rattle.operators.specs.Operators.{Operator, declare, reinstate, look, operatedOf, lookedOf}
+use Rattle.operators.specs.Operators.{Operator, declare, reinstate, ask, look, reason, operatedOf, lookedOf, reasonedOf}
 use Rattle.monitor.specs.Calls.{Call, interval, operate}
 use Rattle.text.specs.Numbers.{ascii}
-use Rattle.text.specs.Lines.{line, linesOf, numberedOf, standingOf}
+use Rattle.text.specs.Lines.{line, linesOf, numberedOf, spannedOf, standingOf}
 
 -- by the number in 01, which is 0 where the call is accepted
 abbrev pub answeredBy : ℕ → List ℕ → List ℕ → List ℕ
@@ -40,12 +43,25 @@ reinstateText number = answeredBy number (line (ascii "reinstate accepted" ∷ [
 -- `look accepted STATUS SMALL LARGE LEVEL`
 unfoldable pub lookText : ℕ → Point → List ℕ
 lookText number q =
-    answeredBy number (standingOf (ascii "look accepted") (q .status) (q .small) (q .large) (q .level)) (ascii "look refused")
+    answeredBy number (standingOf (ascii "look accepted") (q .status) (q .small .count) (q .large .count) (q .level)) (ascii "look refused")
+
+-- `reason accepted small FIRST LAST`, `reason accepted large FIRST LAST` or `reason accepted operator 0 0`
+abbrev pub reasonWords : Reason → List ℕ
+reasonWords ByOperator = ascii "reason accepted operator"
+reasonWords (BySmallRun span) = ascii "reason accepted small"
+reasonWords (ByLargeRun span) = ascii "reason accepted large"
+
+abbrev pub reasonLine : Reason → List ℕ
+reasonLine why = spannedOf (reasonWords why) (spanOf why .first) (spanOf why .last)
+
+unfoldable pub reasonText : ℕ → Reason → List ℕ
+reasonText number why = answeredBy number (reasonLine why) (ascii "reason refused")
 
 abbrev pub operatorText : Operator → Monitor → ℕ → List ℕ
 operatorText (declare level) m p = declareText (verdictNumber (operatedOf (declare level) m p .verdict))
 operatorText reinstate m p = reinstateText (verdictNumber (operatedOf reinstate m p .verdict))
-operatorText look m p = lookText (verdictNumber (lookedOf m p .verdict)) (lookedOf m p .point)
+operatorText (ask look) m p = lookText (verdictNumber (lookedOf m p .verdict)) (lookedOf m p .point)
+operatorText (ask reason) m p = reasonText (verdictNumber (reasonedOf m p .verdict)) (reasonedOf m p .reason)
 
 -- the text of a call made in a state
 abbrev pub callText : Monitor → Call → List ℕ

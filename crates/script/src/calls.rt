@@ -1,13 +1,14 @@
 // The calls: each is made in a state, and its answer put into a buffer.
 ghost use Prim.Native.Nat.{_+_, _≤_};
 ghost use lib.ListN.{length};
-ghost use Rattle.operators.specs.Operators.{declare, reinstate, look};
+ghost use Rattle.operators.specs.Operators.{declare, reinstate, ask, look, reason};
 ghost use Rattle.monitor.specs.Calls.{interval, operate};
 ghost use Rattle.text.specs.Puts.{Put};
 ghost use Rattle.program.specs.Steps.{Steps};
-ghost use Rattle.script.specs.Texts.{answeredBy, acceptedText};
+ghost use Rattle.script.specs.Texts.{answeredBy, acceptedText, reasonLine};
 ghost use Rattle.script.specs.Steps.{madeLoad, madeCall};
 use monitor::Monitor;
+use points::Reason;
 use program::Turn;
 
 // A line for an accepted call, or words and the refusal's number.
@@ -109,7 +110,7 @@ pub(crate) fn reinstate(m: Monitor, point: u32, out: &mut [u8; 8192]) -> Turn
 }
 
 pub(crate) fn look(m: Monitor, point: u32, out: &mut [u8; 8192]) -> Turn
-    ensures { λ r. ⌜ Steps (madeCall m (operate look point)) r (now (out .entry)) (now (out .exit)) ⌝ }
+    ensures { λ r. ⌜ Steps (madeCall m (operate (ask look) point)) r (now (out .entry)) (now (out .exit)) ⌝ }
 {
     let looked = monitor::look(m, point);
     let verdict = looked.verdict;
@@ -125,8 +126,8 @@ pub(crate) fn look(m: Monitor, point: u32, out: &mut [u8; 8192]) -> Turn
                 0,
                 b"look accepted",
                 q.status,
-                q.small,
-                q.large,
+                q.small.count,
+                q.large.count,
                 q.level,
             ),
         };
@@ -135,5 +136,58 @@ pub(crate) fn look(m: Monitor, point: u32, out: &mut [u8; 8192]) -> Turn
         monitor,
         more: true,
         length: text::put_numbered(out, 0, b"look refused", number as u64),
+    }
+}
+
+// The line of a reason.
+fn put_reason(out: &mut [u8], reason: Reason) -> usize
+    requires { ⌜ 8192 ≤ length (now out) ⌝ }
+    ensures { λ r. ⌜ Put (now (out .entry)) 0 (reasonLine reason) r (now (out .exit)) ⌝ }
+{
+    let span = reason.span();
+    match reason {
+        Reason::ByOperator => text::put_spanned(
+            out,
+            0,
+            b"reason accepted operator",
+            span.first,
+            span.last,
+        ),
+        Reason::BySmallRun(_) => text::put_spanned(
+            out,
+            0,
+            b"reason accepted small",
+            span.first,
+            span.last,
+        ),
+        Reason::ByLargeRun(_) => text::put_spanned(
+            out,
+            0,
+            b"reason accepted large",
+            span.first,
+            span.last,
+        ),
+    }
+}
+
+pub(crate) fn reason(m: Monitor, point: u32, out: &mut [u8; 8192]) -> Turn
+    ensures { λ r. ⌜ Steps (madeCall m (operate (ask reason) point)) r (now (out .entry)) (now (out .exit)) ⌝ }
+{
+    let reasoned = monitor::reason(m, point);
+    let verdict = reasoned.verdict;
+    let number = verdict.number();
+    let reason = reasoned.reason;
+    let monitor = reasoned.monitor;
+    if number == 0 {
+        return Turn {
+            monitor,
+            more: true,
+            length: put_reason(out, reason),
+        };
+    }
+    Turn {
+        monitor,
+        more: true,
+        length: text::put_numbered(out, 0, b"reason refused", number as u64),
     }
 }

@@ -16,7 +16,7 @@ use Rattle.trace.proofs.Sweeps.{records-at-most}
 use Rattle.wire.specs.Fields.{wordAt, wholeAt}
 use Rattle.wire.proofs.Laws.{four}
 use Rattle.text.specs.Numbers.{decimalOf, wholeOf}
-use Rattle.text.specs.Lines.{lineOf, lineAt, linesOf, numberedOf, standingOf, dayValuesOf}
+use Rattle.text.specs.Lines.{lineOf, lineAt, linesOf, numberedOf, spannedOf, standingOf, dayValuesOf}
 use Rattle.text.specs.Puts.{Room, Put, PutWithin, hasRoom, longestLine, longestLines}
 use Rattle.text.proofs.Numbers.{length-decimal}
 
@@ -82,6 +82,9 @@ long-longest (negsuc n) f = let h : n < 2 ^ 63 = f .sfits in omega (arith, lengt
 
 pub numbered-longest : (words : List ℕ) (n : ℕ) → n < 2 ^ 64 → length (numberedOf words n) ≤ length words + 22
 numbered-longest words n h = simp length-append (omega (arith, number-longest n h))
+
+pub spanned-longest : (words : List ℕ) (first last : ℕ) → first < 2 ^ 32 → last < 2 ^ 32 → length (spannedOf words first last) ≤ length words + 23
+spanned-longest words first last a b = simp length-append (omega (arith, word-longest first a, word-longest last b))
 
 pub standing-longest : (words : List ℕ) (status small large : ℕ) (level : ℤ) → status < 256 → small < 256 → large < 256 → SFits w32 level
     → length (standingOf words status small large level) ≤ length words + 25

@@ -49,6 +49,10 @@ numberedOf words number = line (words ∷ decimalOf number ∷ [])
 abbrev pub refusedOf : ℕ → List ℕ
 refusedOf number = numberedOf (ascii "refused") number
 
+-- words, and the numbers of a first and a last interval
+abbrev pub spannedOf : List ℕ → ℕ → ℕ → List ℕ
+spannedOf words first last = line (words ∷ decimalOf first ∷ decimalOf last ∷ [])
+
 -- words, and a point's status, runs and level
 abbrev pub standingOf : List ℕ → ℕ → ℕ → ℕ → ℤ → List ℕ
 standingOf words status small large level =

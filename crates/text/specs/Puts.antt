@@ -31,9 +31,13 @@ longestNumber = 20
 abbrev pub longestWhole : ℕ
 longestWhole = 11
 
--- behind the words: a space, the number and the end of the line; or four spaces, three bytes, a whole number and the end
+-- behind the words: a space, the number and the end of the line; or two spaces, twice ten digits and the end; or four spaces, three
+-- bytes, a whole number and the end
 abbrev pub longestNumbered : List ℕ → ℕ
 longestNumbered words = length words + 22
+
+abbrev pub longestSpanned : List ℕ → ℕ
+longestSpanned words = length words + 23
 
 abbrev pub longestStanding : List ℕ → ℕ
 longestStanding words = length words + 25

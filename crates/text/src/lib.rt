@@ -7,8 +7,9 @@ ghost use Prim.Native.Nat.{_+_, _*_};
 ghost use lib.Dec.{leb};
 ghost use lib.ListN.{length};
 ghost use Rattle.text.specs.Numbers.{decimalOf, wholeOf};
-ghost use Rattle.text.specs.Lines.{linesOf, numberedOf, standingOf, dayValuesOf};
-ghost use Rattle.text.specs.Puts.{PutWithin, longestNumber, longestWhole, longestNumbered, longestStanding, longestDay, longestLine, longestLines};
+ghost use Rattle.text.specs.Lines.{linesOf, numberedOf, spannedOf, standingOf, dayValuesOf};
+ghost use Rattle.text.specs.Puts.{PutWithin, longestNumber, longestWhole, longestNumbered, longestSpanned, longestStanding, longestDay};
+ghost use Rattle.text.specs.Puts.{longestLine, longestLines};
 
 // The longest number (u64), signed number (i32), and line of a point.
 const LONGEST_NUMBER: usize = 20;
@@ -17,8 +18,11 @@ const LONGEST_WHOLE: usize = 11;
 
 const LONGEST_LINE: usize = 83;
 
-// The most that stands behind the words of a line: a space, a number and the end; or four spaces, a point's values and the end.
+// The most that stands behind the words of a line: a space, a number and the end; two spaces, the numbers of two intervals and the
+// end; or four spaces, a point's values and the end.
 const BEHIND_NUMBERED: usize = 22;
+
+const BEHIND_SPANNED: usize = 23;
 
 const BEHIND_STANDING: usize = 25;
 
@@ -80,6 +84,17 @@ pub fn put_numbered(out: &mut [u8], at: usize, words: &[u8], n: u64) -> usize
 {
     if has_room(out.len(), at, words.len() + BEHIND_NUMBERED) {
         return pieces::put_numbered(out, at, words, n);
+    }
+    at
+}
+
+// A line of words, and the numbers of a first and a last interval.
+pub fn put_spanned(out: &mut [u8], at: usize, words: &[u8], first: u32, last: u32) -> usize
+    ensures { λ r. ⌜ PutWithin (longestSpanned (now (words .entry)))
+        (now (out .entry)) at (spannedOf (now (words .entry)) first last) r (now (out .exit)) ⌝ }
+{
+    if has_room(out.len(), at, words.len() + BEHIND_SPANNED) {
+        return pieces::put_spanned(out, at, words, first, last);
     }
     at
 }

@@ -4,7 +4,7 @@ ghost use Prim.Native.Nat.{_+_, _%_, _≤_, _<_};
 ghost use lib.ListN.{length, getD};
 ghost use Rattle.wire.specs.Fields.{wordAt, wholeAt};
 ghost use Rattle.text.specs.Numbers.{decimalOf, wholeOf};
-ghost use Rattle.text.specs.Lines.{lineOf, linesOf, numberedOf, standingOf, dayValuesOf};
+ghost use Rattle.text.specs.Lines.{lineOf, linesOf, numberedOf, spannedOf, standingOf, dayValuesOf};
 ghost use Rattle.text.specs.Puts.{Room, Put};
 ghost use Rattle.text.specs.Pieces.{field, statusPiece, amountsPiece, numberPiece, runsPiece, levelPiece, sumsPiece, countsPiece};
 
@@ -187,6 +187,15 @@ pub(crate) fn put_numbered(out: &mut [u8], at: usize, words: &[u8], n: u64) -> u
 {
     let number = put_bytes(out, at, words);
     put_last_number(out, number, n)
+}
+
+pub(crate) fn put_spanned(out: &mut [u8], at: usize, words: &[u8], first: u32, last: u32) -> usize
+    requires { ⌜ Room (now out) at (spannedOf (now words) first last) ⌝ }
+    ensures { λ r. ⌜ Put (now (out .entry)) at (spannedOf (now (words .entry)) first last) r (now (out .exit)) ⌝ }
+{
+    let second = put_bytes(out, at, words);
+    let third = put_field(out, second, first as u64);
+    put_last_number(out, third, last as u64)
 }
 
 // Status, small run and large run.

@@ -48,3 +48,8 @@ pub record Since {H C : Type 0} (next : H → C → H) (Event Undoes : H → C �
   pub splits : calls ≡ before ++ (event ∷ later)
   pub happens : Event (fold next h before) event
   pub stands : (mid : List C) (c : C) (rest : List C) → later ≡ mid ++ (c ∷ rest) → ¬ Undoes (fold next h (before ++ (event ∷ mid))) c
+
+-- The earliest event that stands: what came before it leaves none standing.
+pub record Earliest {H C : Type 0} (next : H → C → H) (Event Undoes : H → C → Type 0) (h : H) (calls : List C) : Type 0 where
+  pub since : Since next Event Undoes h calls
+  pub first : ¬ Since next Event Undoes h (since .before)

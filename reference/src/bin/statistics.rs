@@ -7,15 +7,16 @@ use conformance::line::{Kind, Line, Quality, LINE};
 use conformance::marks::{assess_aggregate, Member, Pass};
 use conformance::monitor::{Record, HEADER, NON_CONFORMING, NOT_RESPONDING, PENDING};
 use conformance::random_ledgers::{Sort, SORTS};
-use conformance::replay::{Call, Calls, MAX_REPORT};
+use conformance::replay::{self, Call, Calls, MAX_REPORT};
 use conformance::response::{self, Assessment, Flag};
 use conformance::{passes, random_calls, random_days, random_ledgers, random_passes};
-use conformance::{Look, Mark, Monitor, Plant, Refusal};
+use conformance::{Look, Mark, Monitor, Plant, Reason, Refusal};
 use std::collections::{BTreeMap, BTreeSet};
 use std::process::ExitCode;
 
 const MARKS: [&str; 6] = ["OFF", "BLANK", "CLEAR", "DOUBT", "SMALL", "LARGE"];
 const STATUSES: [&str; 5] = ["Normal", "Off-Target", "Not-Responding", "NC-Pending", "Non-Conforming"];
+const REASONS: [&str; 3] = ["small", "large", "operator"];
 const SEMI_SCHEDULED: &str = "semi-scheduled";
 /// Bounds of an operator's level and their neighbours.
 const LEVELS: [i32; 9] = [i32::MIN, -128_000_001, -128_000_000, -1, 0, 1, 128_000_000, 128_000_001, i32::MAX];
@@ -32,6 +33,59 @@ const PASSES: [&str; 7] = [
     "left an unreadable member beyond its end",
     "went past quality 2 and ended at an unreadable member",
     "went past quality 2 and looked at all",
+];
+/// What is asked of the declarations by a run whose reason is asked for, of either run.
+const RUN_REASONS: [&str; 9] = [
+    "BLANK inside the run",
+    "DOUBT inside the run",
+    "jump inside the run",
+    "first mark in manual mode",
+    "at its length before the declaring mark",
+    "past 255 marks",
+    "after a run that OFF ended",
+    "after a run that CLEAR ended",
+    "marks counted up to the reinstatement before it",
+];
+/// The same of both runs together.
+const FIRST_MARK_AT_1: &str = "reason by a run, first mark in interval 1";
+const LAST_MARK_AT_BOUND: &str = "reason by a run, declaring mark in interval 4294967295";
+/// The same of one run.
+const ONE_RUN_REASONS: [&str; 8] = [
+    "small, SMALL and LARGE in the run",
+    "small, declared by a LARGE mark",
+    "large, alone at its length",
+    "large, both at their lengths",
+    "large, alone at its length, first mark after the small run's",
+    "large, both at their lengths, first mark after the small run's",
+    "large, both at their lengths before the declaring mark",
+    "large, after a run that SMALL ended",
+];
+/// What is asked of the time since the declaration, of the runs and of the operator.
+const LATER_REASONS: [&str; 7] = [
+    "no interval after the declaration",
+    "SMALL or LARGE after the declaration",
+    "OFF or CLEAR after the declaration",
+    "later the small run alone at its length",
+    "later the large run at its length",
+    "asked again after later intervals",
+    "a refused load after the declaration",
+];
+/// What is asked of the reasons refused.
+const NO_REASONS: [&str; 14] = [
+    "20, point 0",
+    "20, another point",
+    "10, point 0",
+    "10, the point after the last",
+    "10, low byte of a point",
+    "10, point 4294967295",
+    "36, status Normal",
+    "36, status Off-Target",
+    "36, status Not-Responding",
+    "36, status NC-Pending",
+    "36, just reinstated",
+    "36, declared before the latest load",
+    "36, a run at its length, manual mode",
+    "36, a run at its length, automatic mode",
 ];
 /// Seeds of the random days.
 const DAY_SEEDS: std::ops::RangeInclusive<u64> = 1..=2_000;
@@ -975,6 +1029,244 @@ fn count_level(counts: &mut Counts, place: &str, level: i32, before: Look, answe
     }
 }
 
+/// A mark of a point.
+#[derive(Clone, Copy)]
+struct Marked {
+    number: u32,
+    automatic: bool,
+    mark: u8,
+}
+
+impl Marked {
+    fn is(self, mark: Mark) -> bool {
+        self.mark == mark as u8
+    }
+
+    /// Counted in the small run.
+    fn counts(self) -> bool {
+        self.is(Mark::Small) || self.is(Mark::Large)
+    }
+
+    /// Clears both runs.
+    fn clears(self) -> bool {
+        self.is(Mark::Off) || self.is(Mark::Clear)
+    }
+}
+
+/// The two runs after some marks: each from the first mark counted in it on, with the BLANK and DOUBT that stand inside.
+struct Runs<'a> {
+    small: &'a [Marked],
+    large: &'a [Marked],
+}
+
+impl<'a> Runs<'a> {
+    fn after(marks: &'a [Marked]) -> Self {
+        let since = |ends: fn(Marked) -> bool| {
+            let run = marks.rsplit(|&mark| ends(mark)).next().unwrap_or_default();
+            let first = run.iter().position(|mark| mark.counts()).unwrap_or(run.len());
+            &run[first..]
+        };
+        Self { small: since(Marked::clears), large: since(|mark| mark.clears() || mark.is(Mark::Small)) }
+    }
+
+    /// Marks counted in the small run and in the large run.
+    fn lengths(&self) -> [usize; 2] {
+        [self.small, self.large].map(|run| run.iter().filter(|mark| mark.counts()).count())
+    }
+}
+
+/// The lengths of the small run and of the large run to a declaration.
+fn declaration_lengths(plant: &Plant) -> [usize; 2] {
+    [plant.small(), plant.large()].map(|lengths| usize::from(lengths.declaration))
+}
+
+fn reason_name(reason: Reason) -> &'static str {
+    REASONS[match reason {
+        Reason::Small { .. } => 0,
+        Reason::Large { .. } => 1,
+        Reason::Operator => 2,
+    }]
+}
+
+/// A point since the latest accepted load.
+#[derive(Clone, Default)]
+struct Story {
+    marks: Vec<Marked>,
+    /// How many marks came before the latest reinstatement, and what had declared the point.
+    reinstated: Option<(usize, Reason)>,
+    /// How many marks came up to the declaration, the declaring one among them.
+    declared: Option<usize>,
+    /// How many marks had come when the reason of this declaration was asked last.
+    asked: Option<usize>,
+    /// A load was refused since the declaration.
+    refused_load: bool,
+    /// It was declared when the register was loaded.
+    declared_before_load: bool,
+}
+
+impl Story {
+    fn declare(&mut self) {
+        self.declared = Some(self.marks.len());
+        self.asked = None;
+        self.refused_load = false;
+    }
+
+    fn reinstate(&mut self, reason: Reason) {
+        self.reinstated = Some((self.marks.len(), reason));
+        self.declared = None;
+    }
+
+    /// Marks before the latest reinstatement, and since.
+    fn around_reinstatement(&self) -> (&[Marked], &[Marked]) {
+        self.marks.split_at(self.reinstated.map_or(0, |(before, _)| before))
+    }
+
+    /// Counts an accepted reason: what its declaration came from when it is first asked for, and what has come since.
+    fn count(&mut self, counts: &mut Counts, class: &str, plant: &Plant, reason: Reason) {
+        let Some(declared) = self.declared else { return };
+        let (before, since) = self.around_reinstatement();
+        let (upto, later) = since.split_at(declared - before.len());
+        let name = reason_name(reason);
+        let mut met = BTreeSet::new();
+        if self.asked.is_none() {
+            meet_declaration(&mut met, plant, reason, before, upto);
+            if let Some((_, earlier)) = self.reinstated {
+                counts.add(format!("reason {name}, after {} was reinstated", reason_name(earlier)));
+            }
+            counts.add(format!("reason {name}, {class}"));
+            if let Reason::Small { first, last } | Reason::Large { first, last } = reason {
+                if first == 1 {
+                    counts.add(FIRST_MARK_AT_1.into());
+                }
+                if last == u32::MAX {
+                    counts.add(LAST_MARK_AT_BOUND.into());
+                }
+            }
+        }
+        meet_later(&mut met, plant, since, later);
+        if self.asked.is_some_and(|asked| asked < self.marks.len()) {
+            met.insert("asked again after later intervals");
+        }
+        if self.refused_load {
+            met.insert("a refused load after the declaration");
+        }
+        for what in met {
+            counts.add(format!("reason {name}, {what}"));
+        }
+        self.asked = Some(self.marks.len());
+    }
+
+    /// Counts why there is no reason: of a point that is not declared.
+    fn count_none(&self, counts: &mut Counts, plant: &Plant, look: Look) {
+        let mut add = |what: &str| counts.add(format!("reason refused 36, {what}"));
+        add(&format!("status {}", STATUSES[usize::from(look.status)]));
+        let (_, since) = self.around_reinstatement();
+        if since.is_empty() && self.reinstated.is_some() {
+            add("just reinstated");
+        }
+        if self.declared_before_load && self.reinstated.is_none() {
+            add("declared before the latest load");
+        }
+        if look.small >= plant.small().declaration || look.large >= plant.large().declaration {
+            let automatic = since.last().is_some_and(|mark| mark.automatic);
+            add(if automatic { "a run at its length, automatic mode" } else { "a run at its length, manual mode" });
+        }
+    }
+}
+
+/// The points of a register just loaded, given those of the one before.
+fn stories_after_load(earlier: &[Story], points: usize) -> Vec<Story> {
+    let declared = |point: usize| earlier.get(point).is_some_and(|story| story.declared.is_some());
+    (0..points).map(|point| Story { declared_before_load: declared(point), ..Story::default() }).collect()
+}
+
+/// What declared a point. `before`: its marks before the latest reinstatement; `upto`: those since, the declaring one the last.
+fn meet_declaration(met: &mut BTreeSet<&str>, plant: &Plant, reason: Reason, before: &[Marked], upto: &[Marked]) {
+    let mut meet = |reached: bool, what| {
+        if reached {
+            met.insert(what);
+        }
+    };
+    let runs = Runs::after(upto);
+    let [small, large] = runs.lengths();
+    let [small_least, large_least] = declaration_lengths(plant);
+    let differ = runs.small.len() > runs.large.len();
+    let inside_small = |mark: Mark| runs.small.iter().any(|marked| marked.is(mark));
+    let (run, marks, least) = match reason {
+        Reason::Operator => return,
+        Reason::Small { .. } => {
+            meet(inside_small(Mark::Small) && inside_small(Mark::Large), "SMALL and LARGE in the run");
+            meet(large > 0, "declared by a LARGE mark");
+            (runs.small, small, small_least)
+        }
+        Reason::Large { .. } => {
+            let both = small >= small_least;
+            meet(!both, "alone at its length");
+            meet(both, "both at their lengths");
+            meet(!both && differ, "alone at its length, first mark after the small run's");
+            meet(both && differ, "both at their lengths, first mark after the small run's");
+            meet(small > small_least && large > large_least, "both at their lengths before the declaring mark");
+            let one = (small > small_least) != (large > large_least);
+            meet(both && one, "both at their lengths, one before the declaring mark");
+            (runs.large, large, large_least)
+        }
+    };
+    let inside = |mark: Mark| run.iter().any(|marked| marked.is(mark));
+    meet(inside(Mark::Blank), "BLANK inside the run");
+    meet(inside(Mark::Doubt), "DOUBT inside the run");
+    meet(run.windows(2).any(|pair| pair[0].number + 1 != pair[1].number), "jump inside the run");
+    meet(run.first().is_some_and(|mark| !mark.automatic), "first mark in manual mode");
+    meet(marks > least, "at its length before the declaring mark");
+    meet(marks > 255, "past 255 marks");
+    // What stands right before the run, BLANK and DOUBT aside, and what stands before that.
+    let effective = |marks: &[Marked]| -> Vec<Marked> {
+        marks.iter().filter(|mark| mark.counts() || mark.clears()).copied().collect()
+    };
+    match effective(&upto[..upto.len() - run.len()])[..] {
+        [.., mark, end] if mark.counts() && end.is(Mark::Off) => meet(true, "after a run that OFF ended"),
+        [.., mark, end] if mark.counts() && end.is(Mark::Clear) => meet(true, "after a run that CLEAR ended"),
+        [.., mark, end] if mark.is(Mark::Large) && end.is(Mark::Small) => meet(true, "after a run that SMALL ended"),
+        [] => {
+            let counted = effective(before).last().is_some_and(|mark| mark.counts());
+            meet(counted, "marks counted up to the reinstatement before it");
+        }
+        _ => {}
+    }
+}
+
+/// What has come since a declaration. `since`: the marks since the latest reinstatement; `later`: those after the declaration.
+fn meet_later(met: &mut BTreeSet<&str>, plant: &Plant, since: &[Marked], later: &[Marked]) {
+    let mut meet = |reached: bool, what| {
+        if reached {
+            met.insert(what);
+        }
+    };
+    meet(later.is_empty(), "no interval after the declaration");
+    meet(later.iter().any(|mark| mark.counts()), "SMALL or LARGE after the declaration");
+    meet(later.iter().any(|mark| mark.clears()), "OFF or CLEAR after the declaration");
+    // Marks that would declare the point, since its runs go on in its history.
+    let [small_least, large_least] = declaration_lengths(plant);
+    for place in since.len() - later.len()..since.len() {
+        if since[place].automatic && since[place].counts() {
+            let [small, large] = Runs::after(&since[..=place]).lengths();
+            meet(small >= small_least && large < large_least, "later the small run alone at its length");
+            meet(large >= large_least, "later the large run at its length");
+        }
+    }
+}
+
+/// The sort of a point outside the register.
+fn outside(plant: &Plant, point: u32) -> &'static str {
+    let points = plant.points() as u32;
+    match point {
+        0 => "point 0",
+        u32::MAX => "point 4294967295",
+        _ if point == points + 1 => "the point after the last",
+        _ if (1..=points).contains(&(point & 255)) => "low byte of a point",
+        _ => "another point",
+    }
+}
+
 fn main() -> ExitCode {
     let arguments: Vec<u64> = std::env::args().skip(1).filter_map(|text| text.parse().ok()).collect();
     let &[first, last] = &arguments[..] else {
@@ -992,6 +1284,7 @@ fn main() -> ExitCode {
         let mut report = [0; MAX_REPORT];
         let mut last_number = None;
         let mut kept = Vec::new();
+        let mut stories: Vec<Story> = Vec::new();
         for call in Calls::new(&list) {
             match call {
                 Ok(Call::Load(register)) => {
@@ -1002,6 +1295,7 @@ fn main() -> ExitCode {
                             class = monitor.plant().map_or(Vec::new(), classes);
                             last_number = None;
                             kept = vec![None; class.len()];
+                            stories = stories_after_load(&stories, class.len());
                             if class.contains(&SEMI_SCHEDULED) {
                                 counts.add("load accepted, with semi-scheduled units".into());
                             }
@@ -1010,6 +1304,9 @@ fn main() -> ExitCode {
                             count_chained(&mut counts, register, refusal);
                         }
                         Err(_) => {}
+                    }
+                    if answer.is_err() {
+                        stories.iter_mut().for_each(|story| story.refused_load = true);
                     }
                 }
                 Ok(Call::Interval { report: length, buffer }) => {
@@ -1040,6 +1337,7 @@ fn main() -> ExitCode {
                     for (point, record) in report.as_chunks::<16>().0.iter().enumerate() {
                         let class = class[point];
                         let record = Record::of(record);
+                        stories[point].marks.push(Marked { number, automatic: buffer[4] == 1, mark: record.mark });
                         counts.add(format!("{class} mark {}", MARKS[usize::from(record.mark)]));
                         counts.add(format!("{class} status {}", STATUSES[usize::from(record.status)]));
                         let size = 100 * u64::from(record.error.unsigned_abs());
@@ -1055,6 +1353,7 @@ fn main() -> ExitCode {
                         if record.status == NON_CONFORMING && before[point].status != NON_CONFORMING {
                             counts.add(format!("{class} declared by an interval"));
                             count_declared(&mut counts, plant, point, lines);
+                            stories[point].declare();
                         }
                         if class == SEMI_SCHEDULED {
                             count_semi_scheduled(&mut counts, &lines[point], kept[point], before[point], record);
@@ -1076,6 +1375,7 @@ fn main() -> ExitCode {
                     counts.answer("declare", &answer);
                     if answer.is_ok() {
                         counts.add(format!("{} declared by an operator", class[point as usize - 1]));
+                        stories[point as usize - 1].declare();
                     }
                     match (monitor.plant(), before) {
                         (Some(plant), Ok(before)) => {
@@ -1086,14 +1386,39 @@ fn main() -> ExitCode {
                     }
                 }
                 Ok(Call::Reinstate { point }) => {
+                    let reason = monitor.reason(point);
                     let answer = monitor.reinstate(point);
                     counts.answer("reinstate", &answer);
-                    if answer.is_ok() {
+                    if let (Ok(()), Ok(reason)) = (answer, reason) {
                         counts.add(format!("{} reinstated", class[point as usize - 1]));
+                        stories[point as usize - 1].reinstate(reason);
                     }
                 }
                 Ok(Call::Look { point }) => counts.answer("look", &monitor.look(point)),
-                Err(_) => counts.add("script error".into()),
+                Ok(Call::Reason { point }) => {
+                    let answer = monitor.reason(point);
+                    counts.answer("reason", &answer);
+                    let Some(plant) = monitor.plant() else {
+                        let which = if point == 0 { "point 0" } else { "another point" };
+                        counts.add(format!("reason refused 20, {which}"));
+                        continue;
+                    };
+                    let Ok(look) = monitor.look(point) else {
+                        counts.add(format!("reason refused 10, {}", outside(plant, point)));
+                        continue;
+                    };
+                    let story = &mut stories[point as usize - 1];
+                    match answer {
+                        Ok(reason) => story.count(&mut counts, class[point as usize - 1], plant, reason),
+                        Err(_) => story.count_none(&mut counts, plant, look),
+                    }
+                }
+                Err(place) => {
+                    counts.add("script error".into());
+                    if list.get(place..place + HEAD).is_some_and(|head| head[..4] == replay::REASON.to_le_bytes()) {
+                        counts.add("script error, reason with another payload".into());
+                    }
+                }
             }
         }
     }
@@ -1112,6 +1437,7 @@ fn main() -> ExitCode {
         ("declare", &[10, 11, 20, 22]),
         ("reinstate", &[10, 20, 23]),
         ("look", &[10, 20]),
+        ("reason", &[10, 20, 36]),
     ] {
         wanted.push(format!("{call} accepted"));
         wanted.extend(refusals.iter().map(|number| format!("{call} refused {number}")));
@@ -1132,7 +1458,20 @@ fn main() -> ExitCode {
         wanted.push(format!("{class} declared by an interval"));
         wanted.push(format!("{class} declared by an operator"));
         wanted.push(format!("{class} reinstated"));
+        wanted.extend(REASONS.iter().map(|reason| format!("reason {reason}, {class}")));
     }
+    for reason in REASONS {
+        if reason != "operator" {
+            wanted.extend(RUN_REASONS.iter().map(|what| format!("reason {reason}, {what}")));
+        }
+        wanted.extend(LATER_REASONS.iter().map(|what| format!("reason {reason}, {what}")));
+        wanted.extend(REASONS.iter().map(|earlier| format!("reason {reason}, after {earlier} was reinstated")));
+    }
+    wanted.push(FIRST_MARK_AT_1.into());
+    wanted.push(LAST_MARK_AT_BOUND.into());
+    wanted.extend(ONE_RUN_REASONS.iter().map(|what| format!("reason {what}")));
+    wanted.extend(NO_REASONS.iter().map(|what| format!("reason refused {what}")));
+    wanted.push("script error, reason with another payload".into());
     for what in [
         "CLEAR past the trigger, good",
         "CLEAR past the trigger, substituted",

@@ -8,8 +8,8 @@ use mir.Val.{toZ, ofZ}
 use Rattle.signed.proofs.Sizes.{back32}
 use Rattle.operators.proofs.Operated.{accepted-at, refused-at}
 use Rattle.points.specs.Points.{declaredAt}
+use Rattle.points.specs.declared.Reason.the-variants.{ByOperator}
 use Rattle.points.specs.declared.Point.{Point}
-use Rattle.intervals.specs.Plants.{isUnidirectionalAt}
 use Rattle.intervals.specs.Monitors.{pointAt}
 use Rattle.operators.specs.Operators.{declare, permitDeclare, permit, change, stored}
 use Rattle.operators.proofs.declare_at.Statement.{statement}
@@ -28,7 +28,7 @@ abbrev point : tie.Start → Point
 point s = pointAt (s .args .t1) (s .args .i)
 
 permitted : (c : tie.After-permit-declare)
-    → let s = start c in c .permit-declare .result ≡ permit (isUnidirectionalAt (s .args .t1 .plant) (s .args .i)) (declare (s .args .level)) (point s)
+    → let s = start c in c .permit-declare .result ≡ permit (s .args .t1 .plant) (s .args .i) (declare (s .args .level)) (point s)
 unfolding permit
 permitted c =
     let s = start c in
@@ -62,7 +62,7 @@ returns : tie.Need-returns
 unfolding change
 returns c =
     let told = c .before .before in
-    let declared = c .before .declare .ensures ∙ ap declaredAt (level-is (start (asked told))) in
+    let declared = c .before .declare .ensures ∙ ap (λ (z : ℤ). declaredAt z ByOperator) (level-is (start (asked told))) in
     accepted-at (declare _) _ _ _ (permitted (asked told)) _ (told .enum-told .given .1) (c .store .ensures ∙ ap (stored _ _) declared)
 
 returns-2 : tie.Need-returns-2

@@ -12,8 +12,8 @@ mul-q c = search needs
 element-copy-out-q : tie.Need-element-copy-out-q
 element-copy-out-q c = search needs
 
-permit-reinstate-requires : tie.Need-permit-reinstate-requires
-permit-reinstate-requires c κs = search needs
+permit-declared-requires : tie.Need-permit-declared-requires
+permit-declared-requires c κs = search needs
 
 enum-told : tie.Need-enum-told
 enum-told c = search needs
@@ -31,12 +31,12 @@ returns : tie.Need-returns
 unfolding permit change
 returns c =
     let told = c .before .before in
-    let permit = told .before .before .permit-reinstate in
+    let permit = told .before .before .permit-declared in
     accepted-at reinstate _ _ _ (permit .ensures) _ (told .enum-told .given .1) (c .store .ensures ∙ ap (stored _ _) (c .before .reinstate .ensures))
 
 returns-2 : tie.Need-returns-2
 unfolding permit
-returns-2 c = refused-at reinstate _ _ _ (c .before .before .permit-reinstate .ensures) _ (c .enum-told2 .given .1)
+returns-2 c = refused-at reinstate _ _ _ (c .before .before .permit-declared .ensures) _ (c .enum-told2 .given .1)
 
 pub reinstate-at-spec : {M : Type 1} → statement M
 reinstate-at-spec =
@@ -44,7 +44,7 @@ reinstate-at-spec =
     (tie.spec
     mul-q
     element-copy-out-q
-    permit-reinstate-requires
+    permit-declared-requires
     enum-told
     reinstate-requires
     store-requires

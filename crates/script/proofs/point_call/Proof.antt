@@ -1,6 +1,6 @@
 -- `script::point_call` meets its contract. Assumes nothing.
 use borrow.Author.Needs.{needs}
-use Rattle.script.proofs.Readings.{point-reinstate, point-look, point-unread}
+use Rattle.script.proofs.Readings.{point-reinstate, point-look, point-reason, point-unread}
 use Rattle.script.proofs.point_call.Statement.{statement}
 use Rattle.script.proofs.point_call.Tie as tie
 
@@ -18,15 +18,23 @@ returns-2 c =
     let t = c .before .before in
     rw (point-look _ _ (t .before .if1 .left) (t .if2 .taken)) (c .look .ensures)
 
-unreadable-requires : tie.Need-unreadable-requires
-unreadable-requires c κs = search needs
+reason-requires : tie.Need-reason-requires
+reason-requires c κs = search needs
 
 returns-3 : tie.Need-returns-3
 returns-3 c =
     let t = c .before .before in
-    rw (point-unread _ _ (t .before .if1 .left) (t .if2 .left)) (c .unreadable .ensures)
+    rw (point-reason _ _ (t .before .before .if1 .left) (t .before .if2 .left) (t .if3 .taken)) (c .reason .ensures)
+
+unreadable-requires : tie.Need-unreadable-requires
+unreadable-requires c κs = search needs
+
+returns-4 : tie.Need-returns-4
+returns-4 c =
+    let t = c .before .before in
+    rw (point-unread _ _ (t .before .before .if1 .left) (t .before .if2 .left) (t .if3 .left)) (c .unreadable .ensures)
 
 pub point-call-spec : {M : Type 1} → statement M
 point-call-spec =
     tie.close
-    (tie.spec reinstate-requires returns look-requires returns-2 unreadable-requires returns-3)
+    (tie.spec reinstate-requires returns look-requires returns-2 reason-requires returns-3 unreadable-requires returns-4)

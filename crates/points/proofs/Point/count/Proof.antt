@@ -25,17 +25,20 @@ enum-told-4 c = search needs
 enum-told-5 : tie.Need-enum-told-5
 enum-told-5 c = search needs
 
-one-more-requires : tie.Need-one-more-requires
-one-more-requires c κs = search needs
+count-one-requires : tie.Need-count-one-requires
+count-one-requires c κs = search needs
+
+no-run-requires : tie.Need-no-run-requires
+no-run-requires c κs = search needs
 
 enum-told-6 : tie.Need-enum-told-6
 enum-told-6 c = search needs
 
-one-more-requires-2 : tie.Need-one-more-requires-2
-one-more-requires-2 c κs = search needs
+count-one-requires-2 : tie.Need-count-one-requires-2
+count-one-requires-2 c κs = search needs
 
-one-more-requires-3 : tie.Need-one-more-requires-3
-one-more-requires-3 c κs = search needs
+count-one-requires-3 : tie.Need-count-one-requires-3
+count-one-requires-3 c κs = search needs
 
 returns : tie.Need-returns
 unfolding counted
@@ -55,11 +58,11 @@ returns-4 c = rw (c .enum-told4 .given .1)
 
 returns-5 : tie.Need-returns-5
 unfolding counted
-returns-5 c = cc
+returns-5 c = rw (c .before .before .enum-told5 .given .1, c .before .count-one .ensures, c .no-run .ensures)
 
 returns-6 : tie.Need-returns-6
 unfolding counted
-returns-6 c = cc
+returns-6 c = rw (c .before .before .enum-told6 .given .1, c .before .count-one2 .ensures, c .count-one3 .ensures)
 
 pub count-spec : {M : Type 1} → statement M
 count-spec =
@@ -72,10 +75,11 @@ count-spec =
     clear-requires-2
     enum-told-4
     enum-told-5
-    one-more-requires
+    count-one-requires
+    no-run-requires
     enum-told-6
-    one-more-requires-2
-    one-more-requires-3
+    count-one-requires-2
+    count-one-requires-3
     returns
     returns-2
     returns-3

@@ -9,7 +9,7 @@ status-by-requires c κs = search needs
 
 returns : tie.Need-returns
 unfolding graded
-returns c = cc
+returns c = rw (c .status-by .ensures)
 
 pub grade-spec : {M : Type 1} → statement M
 grade-spec = tie.close (tie.spec status-by-requires returns)

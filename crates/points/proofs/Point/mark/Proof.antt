@@ -5,7 +5,7 @@ use Rattle.points.proofs.Point.mark.Statement.{statement}
 use Rattle.points.proofs.Point.mark.Tie as tie
 
 returns : tie.Need-returns
-returns c = search (needs, marked-declared)
+returns c = marked-declared _ _ _ _ (c .if1 .taken)
 
 count-requires : tie.Need-count-requires
 count-requires c κs = search needs
@@ -14,7 +14,7 @@ settle-requires : tie.Need-settle-requires
 settle-requires c κs = search needs
 
 returns-2 : tie.Need-returns-2
-returns-2 c = search (needs, marked-counted)
+returns-2 c = marked-counted _ _ _ _ _ _ (c .before .before .if1 .left) (c .before .count .ensures) (c .settle .ensures)
 
 pub mark-spec : {M : Type 1} → statement M
 mark-spec = tie.close (tie.spec returns count-requires settle-requires returns-2)
