@@ -1,5 +1,6 @@
 -- What has happened, worked out from the plant and the calls alone, first call to last (01, "Whole lists of calls"): "nothing from
--- the monitor's state or answers goes in". Runs do not stop at 255, with the number of their first mark, and go on while a point is declared.
+-- the monitor's state or answers goes in". Runs do not stop at 255, have the number of their first mark,
+-- and go on while a point is declared.
 use mathlib.Core.Bool.{Bool, true, false, cond, _&&_, not}
 use mathlib.Core.List.{List}
 use Prim.Native.Nat.{ℕ}

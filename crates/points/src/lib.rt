@@ -43,8 +43,8 @@ impl Reason {
     }
 }
 
-// Status, stored runs, constraint level and reason. A declared point has status 4 and no runs; what is not declared has no run for a
-// reason.
+// Status, stored runs, constraint level and reason. A declared point has status 4 and no runs; one that is not has no reason to tell,
+// and holds `ByOperator`.
 pub struct Point {
     pub status: u8,
     pub small: Run,

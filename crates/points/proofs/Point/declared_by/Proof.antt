@@ -12,7 +12,7 @@ is-counted-requires c κs = search needs
 
 returns : tie.Need-returns
 unfolding declares
-returns c = cc
+returns c = let k = c .before in rw (k .is-counted .ensures, k .before .reached .ensures)
 
 pub declared-by-spec : {M : Type 1} → statement M
 declared-by-spec = tie.close (tie.spec reached-requires is-counted-requires returns)
