@@ -2,7 +2,6 @@
 -- returned, accepted or refused. Each step is by the definitions that the calls' contracts cite.
 use mathlib.Core.List.{List}
 use Prim.Native.Nat.{ℕ}
-use lib.IntN.{ℤ}
 use lib.ListN.{length}
 use Rattle.trace.specs.Lists.{fold, outcomes}
 use Rattle.points.specs.declared.Reason.{Reason}
@@ -16,18 +15,18 @@ pub data Call : Type 0 where
   interval : (buffer report : List ℕ) → Call
   operate : Operator → (point : ℕ) → Call
 
--- a refusal's number, the report's bytes, or the answer to an operator call
+-- a refusal's number, the report's bytes, or the answer to an operator call: of a look all that it shows of the point
 pub data Outcome : Type 0 where
   refusal : ℕ → Outcome
   reported : List ℕ → Outcome
   done : Outcome
-  looked : (status small large : ℕ) (level : ℤ) → Outcome
+  looked : Point → Outcome
   reasoned : Reason → Outcome
 
 abbrev pub reply : Operator → Point → Outcome
 reply (declare level) q = done
 reply reinstate q = done
-reply (ask look) q = looked (q .status) (q .small .count) (q .large .count) (q .level)
+reply (ask look) q = looked q
 reply (ask reason) q = reasoned (q .reason)
 
 -- the state that a call returns
@@ -45,7 +44,7 @@ next m (operate op p) = nextBy op m p
 abbrev pub answerBy : Operator → Monitor → ℕ → Outcome
 answerBy (declare level) m p = decide (operatedOf (declare level) m p .verdict) refusal done
 answerBy reinstate m p = decide (operatedOf reinstate m p .verdict) refusal done
-answerBy (ask look) m p = decide (lookedOf m p .verdict) refusal (reply (ask look) (lookedOf m p .point))
+answerBy (ask look) m p = decide (lookedOf m p .verdict) refusal (looked (lookedOf m p .point))
 answerBy (ask reason) m p = decide (reasonedOf m p .verdict) refusal (reasoned (reasonedOf m p .reason))
 
 abbrev pub answer : Monitor → Call → Outcome

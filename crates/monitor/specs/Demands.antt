@@ -11,6 +11,7 @@ use Rattle.trace.specs.Lists.{outcomes, Alike, sights, Since}
 use Rattle.register.specs.declared.Plant.{Plant}
 use Rattle.marks.specs.Levels.{isDispatchable}
 use Rattle.marks.specs.declared.Mark.the-variants.{Small, Large}
+use Rattle.points.specs.declared.Point.{Point}
 use Rattle.intervals.specs.Plants.{total, place, named, isUnidirectionalAt, Group, unitIn, pointIn}
 use Rattle.intervals.specs.Assessments.{headerOf, modeOf}
 use Rattle.intervals.specs.Monitors.{pointAt}
@@ -56,7 +57,7 @@ abbrev pub ofGroup : Plant → Group → Outcome → Outcome
 ofGroup plant g (refusal k) = refusal k
 ofGroup plant g (reported report) = reported (recordsIn plant g report (total plant))
 ofGroup plant g done = done
-ofGroup plant g (looked status small large level) = looked status small large level
+ofGroup plant g (looked q) = looked q
 ofGroup plant g (reasoned why) = reasoned why
 
 -- "A group's answers are those to operator calls that name one of its points, in list order"; and of each interval its refusal's
@@ -97,7 +98,7 @@ declaredThen plant calls p = named plant p && isDeclared (history plant calls .p
 
 -- "A point is declared after a list when a look at it there would answer status 4"
 abbrev pub LooksDeclared : Monitor → ℕ → Type 0
-LooksDeclared m p = (small : ℕ) × (large : ℕ) × (level : ℤ) × (answer m (operate (ask look) p) ≡ looked 4 small large level)
+LooksDeclared m p = (q : Point) × (answer m (operate (ask look) p) ≡ looked q) × (q .status ≡ 4)
 
 -- ==== The promise
 

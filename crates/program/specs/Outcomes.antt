@@ -15,7 +15,7 @@ abbrev pub programText : List ℕ → Outcome → List ℕ
 programText buffer (refusal k) = refusedOf k
 programText buffer (reported report) = linesOf (numberOf (headerOf buffer)) report
 programText buffer done = []
-programText buffer (looked status small large level) = []
+programText buffer (looked q) = []
 programText buffer (reasoned why) = []
 
 -- whether the run goes on after an outcome: a refusal "ends the run", and no other outcome does
@@ -23,7 +23,7 @@ abbrev pub goesOn : Outcome → Bool
 goesOn (refusal k) = false
 goesOn (reported report) = true
 goesOn done = true
-goesOn (looked status small large level) = true
+goesOn (looked q) = true
 goesOn (reasoned why) = true
 
 -- a step that comes to a next state, after a buffer with this outcome

@@ -27,12 +27,12 @@ use Rattle.monitor.specs.Loading.{loadOf}
 use Rattle.monitor.specs.Calls.{interval, operate, next}
 use Rattle.monitor.specs.declared.Loaded.{Loaded}
 use Rattle.text.specs.Numbers.{ascii}
-use Rattle.text.specs.Lines.{line, numberedOf, spannedOf, standingOf}
+use Rattle.text.specs.Lines.{line, numberedOf, spannedOf}
 use Rattle.text.specs.Puts.{Put}
 use Rattle.program.specs.Steps.{Outcome, Steps}
 use Rattle.program.proofs.Turns.{turned, refused-number, accepted-last}
 use Rattle.script.specs.Texts.{answeredBy, loadText, acceptedText, intervalText, declareText, reinstateText, lookText}
-use Rattle.script.specs.Texts.{reasonWords, reasonLine, reasonText, operatorText, callText}
+use Rattle.script.specs.Texts.{lookLine, reasonWords, reasonLine, reasonText, operatorText, callText}
 use Rattle.script.specs.Steps.{madeLoad, madeCall}
 
 -- ---- the text, by the number
@@ -130,9 +130,7 @@ module _ (m : Monitor) (out after : List ℕ) (size : ℕ) where
     looked : Put out 0 (operatorText (ask look) m p) size after → Made (madeCall m (operate (ask look) p)) (r .monitor)
     looked put = turned (madeCall m (operate (ask look) p)) (r .monitor) true (ap (λ (l : Looked). l .monitor) is) refl put
 
-    pub look-accepted : number ≡ 0
-        → Put out 0 (standingOf (ascii "look accepted") (r .point .status) (r .point .small .count) (r .point .large .count) (r .point .level)) size after
-        → Made (madeCall m (operate (ask look) p)) (r .monitor)
+    pub look-accepted : number ≡ 0 → Put out 0 (lookLine (r .point)) size after → Made (madeCall m (operate (ask look) p)) (r .monitor)
     unfolding lookText
     look-accepted e put = looked (rw (sym is, sym told) (put-accepted number _ (ascii "look refused") e put))
 

@@ -11,7 +11,7 @@ use Rattle.intervals.specs.declared.Verdict.the-variants.{Accept, Refuse}
 use Rattle.intervals.proofs.Refusals.{interval-told}
 use Rattle.operators.specs.Operators.{declare, reinstate, ask, look, reason, operatedOf, lookedOf, reasonedOf}
 use Rattle.operators.proofs.Refusals.{operator-told}
-use Rattle.monitor.specs.Calls.{Call, interval, operate, Outcome, refusal, reported, done, reasoned, reply, next, answer, run}
+use Rattle.monitor.specs.Calls.{Call, interval, operate, Outcome, refusal, reported, done, looked, reasoned, next, answer, run}
 use Rattle.text.specs.Numbers.{ascii}
 use Rattle.text.specs.Lines.{numberedOf}
 use Rattle.program.proofs.Turns.{refused-number}
@@ -35,7 +35,7 @@ call-told m (operate (declare level) p) =
     told-by (operate (declare level) p) done (ascii "declare refused") (λ k. refl) (operator-told m p (declare level))
 call-told m (operate reinstate p) = told-by (operate reinstate p) done (ascii "reinstate refused") (λ k. refl) (operator-told m p reinstate)
 call-told m (operate (ask look) p) =
-    told-by (operate (ask look) p) (reply (ask look) (lookedOf m p .point)) (ascii "look refused") (λ k. refl) (operator-told m p (ask look))
+    told-by (operate (ask look) p) (looked (lookedOf m p .point)) (ascii "look refused") (λ k. refl) (operator-told m p (ask look))
 call-told m (operate (ask reason) p) =
     told-by (operate (ask reason) p) (reasoned (reasonedOf m p .reason)) (ascii "reason refused") (λ k. refl) (operator-told m p (ask reason))
 

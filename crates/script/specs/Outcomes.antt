@@ -7,8 +7,8 @@ use Rattle.intervals.specs.declared.Monitor.{Monitor}
 use Rattle.operators.specs.Operators.{Operator, declare, reinstate, ask, look, reason}
 use Rattle.monitor.specs.Calls.{Call, interval, operate, Outcome, refusal, reported, done, looked, reasoned, next}
 use Rattle.text.specs.Numbers.{ascii, decimalOf}
-use Rattle.text.specs.Lines.{line, numberedOf, standingOf}
-use Rattle.script.specs.Texts.{acceptedText, reasonLine, callText}
+use Rattle.text.specs.Lines.{line, numberedOf}
+use Rattle.script.specs.Texts.{acceptedText, lookLine, reasonLine, callText}
 
 -- an operator call's name in the text
 abbrev pub nameOf : Operator → List ℕ
@@ -22,12 +22,12 @@ abbrev pub outcomeText : Call → Outcome → List ℕ
 outcomeText (interval buffer report) (refusal k) = numberedOf (ascii "interval refused") k
 outcomeText (interval buffer report) (reported bytes) = acceptedText (numberOf (headerOf buffer)) bytes
 outcomeText (interval buffer report) done = []
-outcomeText (interval buffer report) (looked status small large level) = []
+outcomeText (interval buffer report) (looked q) = []
 outcomeText (interval buffer report) (reasoned why) = []
 outcomeText (operate op p) (refusal k) = line (nameOf op ∷ ascii "refused" ∷ decimalOf k ∷ [])
 outcomeText (operate op p) (reported bytes) = []
 outcomeText (operate op p) done = line (nameOf op ∷ ascii "accepted" ∷ [])
-outcomeText (operate op p) (looked status small large level) = standingOf (ascii "look accepted") status small large level
+outcomeText (operate op p) (looked q) = lookLine q
 outcomeText (operate op p) (reasoned why) = reasonLine why
 
 -- the texts of a list's calls, one after the other, each call made in the state that the call before it returned

@@ -41,9 +41,11 @@ unfoldable pub reinstateText : ℕ → List ℕ
 reinstateText number = answeredBy number (line (ascii "reinstate accepted" ∷ [])) (ascii "reinstate refused")
 
 -- `look accepted STATUS SMALL LARGE LEVEL`
+abbrev pub lookLine : Point → List ℕ
+lookLine q = standingOf (ascii "look accepted") (q .status) (q .small .count) (q .large .count) (q .level)
+
 unfoldable pub lookText : ℕ → Point → List ℕ
-lookText number q =
-    answeredBy number (standingOf (ascii "look accepted") (q .status) (q .small .count) (q .large .count) (q .level)) (ascii "look refused")
+lookText number q = answeredBy number (lookLine q) (ascii "look refused")
 
 -- `reason accepted small FIRST LAST`, `reason accepted large FIRST LAST` or `reason accepted operator 0 0`
 abbrev pub reasonWords : Reason → List ℕ
