@@ -5,11 +5,13 @@
     make_calls.py --check   writes nothing; exit 1 where a file differs from what would be written, or where the lines of the
                             group that two lists share, `alike_1` and `alike_2` among them, are not equal
 
-Every expected line is worked out by hand from 01, for kind 4 from 02, 2026-01, for levels from 02, 2026-02, and for reasons from
-02, 2026-06; nothing here computes a mark, a level or a reason, and no monitor is run. A step of a list is a call's bytes and the
-lines that it prints. A point's line is interval, point, status (0 Normal, 1 Off-Target, 2 Not-Responding, 3 NC-Pending,
-4 Non-Conforming), mark (0 OFF, 1 BLANK, 2 CLEAR, 3 DOUBT, 4 SMALL, 5 LARGE), small run, large run, error, small trigger, level. A
-reason is small, large or operator, then the numbers of the first mark counted in that run and of the declaring mark.
+Every expected line is worked out by hand from 01, for kind 4 from 02, 2026-01, for levels from 02, 2026-02, for reasons from 02,
+2026-06, and for targets from 02, 2026-07; nothing here computes a mark, a level, a reason or a sum over members, and no monitor is
+run. A step of a list is a call's bytes and the lines that it prints. A point's line is interval, point, status (0 Normal,
+1 Off-Target, 2 Not-Responding, 3 NC-Pending, 4 Non-Conforming), mark (0 OFF, 1 BLANK, 2 CLEAR, 3 DOUBT, 4 SMALL, 5 LARGE), small
+run, large run, error, small trigger, level. A reason is small, large or operator, then the numbers of the first mark counted in
+that run and of the declaring mark. A target is the sum of MWB, loads subtracted, then those of FCR and of FCL, over the members
+that have a kept line, and then 1 where every member has one, 0 otherwise.
 
 tests/calls/alike_*/group has the numbers of the output's lines that belong to the group, one a line. Two lists that are alike
 have one name but for its end, _1 and _2.
@@ -60,6 +62,10 @@ def look(point):
 
 def reason(point):
     return call(6, struct.pack("<I", point))  # 0 point
+
+
+def target(point):
+    return call(7, struct.pack("<I", point))  # 0 point
 
 
 # ---- steps: a call's bytes, then its lines
@@ -2097,6 +2103,760 @@ def reason_plant():
     ]
 
 
+# ---- targets (02, 2026-07)
+
+
+def aimed(mw, mwb, fcr, fcl, **changes):
+    """`plain` with another target and regulation; its triggers are the same."""
+    return plain(mw, mwb=mwb, fcr=fcr, fcl=fcl, **changes)
+
+
+def targets(first, *answers):
+    """The target of each aggregate from point `first` on."""
+    return [(target(point), f"target accepted {answer}") for point, answer in enumerate(answers, first)]
+
+
+def target_mixed():
+    """Kinds 1 to 3 in chains and kinds 1 to 4 in none. Chain 4 -> 1 -> 5 -> 3 (bidirectional unit, generating unit, load, load) is
+    point 12, chain 7 -> 6 (generating unit, bidirectional unit) point 13, chain 11 (load) point 14.
+
+    From the second interval on MW is the kept target, unless something else is said: no error. MWO is max(200,000, 200,000) for
+    point 12, max(200,000, 0) for 13 and max(0, 100,000) for 14, and ROC max(6,000, 6,000), max(6,000, 0) and max(0, 3,000): their
+    small triggers are 600,000, and the large one of 12 is max(600,000, min(1,000,000, 2,400,000)).
+    """
+    units = [(GENERATING, 5), (GENERATING, 0), (LOAD, 0), (BIDIRECTIONAL, 1), (LOAD, 3), (BIDIRECTIONAL, 0), (GENERATING, 6),
+             (LOAD, 0), (BIDIRECTIONAL, 0), (SEMI_SCHEDULED, 0), (LOAD, 0)]
+    none, off, on = "0 1 0 0 0 0 0", "0 0 0 0 0 0 0", "0 2 0 0 0 600000 0"
+
+    def member(mw, mwb, fcr, fcl, **changes):
+        return aimed(mw, mwb, fcr, fcl, **({"mode": 2} | changes))
+
+    def at(number, a, b, c, alone=on):
+        """Of each chain the lines of its members in its order, each with what is printed; then what is printed of the aggregate.
+        The units in no chain stay at their targets; these and their regulation are in no sum."""
+        four, one, five, three, twelve = a
+        seven, six, thirteen = b
+        eleven, fourteen = c
+        high = aimed(1000.0, 1_000_000, 500_000, 600_000), alone
+        low = aimed(-1000.0, -1_000_000, 500_000, 600_000), alone
+        sun = aimed(1000.0, 1_000_000, 500_000, 600_000, cap=1), alone
+        return taken(number, AUTOMATIC, one, high, three, four, five, six, seven, high, low, sun, eleven,
+                     more=[twelve, thirteen, fourteen])
+
+    # The long chain at intervals 1 and 8: conformance mode 0, OFF.
+    early = [(aimed(0.0, -50_000, 100, 7), off), (aimed(0.0, 100_000, 1_000, 200), off), (aimed(0.0, 30_000, 20, 3_000), off),
+             (aimed(0.0, 40_000, 3, 40), off), off]
+    return [
+        (load(register(LENGTHS, units, [4, 7, 11])), "load accepted 7"),
+        # After a load nothing is kept.
+        *targets(12, "0 0 0 0", "0 0 0 0", "0 0 0 0"),
+        # All modes 0: OFF. Mode 2 and nothing kept: BLANK. Mode 1: OFF, and the aggregate is BLANK. The lines are kept.
+        at(1,
+           early,
+           [(member(0.0, 60_000, 5, 0), none), (member(0.0, -60_000, 0, 9), none), none],
+           [(member(0.0, 80_000, 11, 12, mode=1), off), none], alone=none),
+        # 12: -50,000 + 100,000 - 30,000 - 40,000; 100 + 1,000 + 20 + 3; 7 + 200 + 3,000 + 40. 13: 60,000 - 60,000 is 0, and all are
+        # kept. 14: a load.
+        *targets(12, "-20000 1123 3247 1", "0 5 9 1", "-80000 11 12 1"),
+        at(2,
+           [(member(-50.0, 70_000, 0, 0), on), (member(100.0, 5_000, 0, 1), on), (member(30.0, 90_000, 2_000, 0), on),
+            (member(40.0, 0, 0, 0), on), on],
+           [(member(60.0, 0, 0, 0), on), (member(-60.0, 0, 0, 0), on), on],
+           [(member(80.0, 0, 7, 0), on), on]),
+        # 70,000 + 5,000 - 90,000 - 0. The targets of 13 are 0 and kept.
+        *targets(12, "-15000 2000 1 1", "0 0 0 1", "0 7 0 1"),
+        # Unit 5 is bad: BLANK, and so is 12; unit 1 has mode 0: OFF. Unit 7 is substituted: CLEAR. Units 6 and 11 are bad and have
+        # mode 0: OFF; 13 is BLANK for a bad member, and 14 OFF, as all its modes are 0. All can be read, so all are kept.
+        at(3,
+           [(member(70.0, -2_000_000, 2_000_000, 0), on), (member(5.0, 2_000_000, 0, 2_000_000, mode=0), off),
+            (member(float("nan"), 12_345, 67, 89, quality=BAD), none), (member(0.0, 2_000_000, 5, 6), on), none],
+           [(member(0.0, 1, 1, 0, quality=SUBSTITUTED), on), (member(0.0, -2, 0, 1, quality=BAD, mode=0), off), none],
+           [(member(float("nan"), 1, 0, 0, quality=BAD, mode=0), off), off]),
+        # -2,000,000 + 2,000,000 - 12,345 - 2,000,000; 2,000,000 + 0 + 67 + 5; 0 + 2,000,000 + 89 + 6.
+        *targets(12, "-2012345 2000072 2000095 1", "-1 1 1 1", "-1 0 0 1"),
+        at(4,
+           [(member(-2000.0, 40_000, 1, 2), on), (member(2000.0, 30_000, 3, 4), on), (member(12.345, 20_000, 5, 6), on),
+            (member(2000.0, 10_000, 7, 8), on), on],
+           [(member(0.001, 25_000, 0, 500), on), (member(-0.002, -75_000, 600, 0), on), on],
+           [(member(0.001, 2_000_000, 2_000_000, 2_000_000), on), on]),
+        # 40,000 + 30,000 - 20,000 - 10,000; 1 + 3 + 5 + 7; 2 + 4 + 6 + 8. 25,000 - 75,000.
+        *targets(12, "40000 16 20 1", "-50000 600 500 1", "-2000000 2000000 2000000 1"),
+        # Unit 1: 130,000 - 30,003, LARGE. Point 12: 40,000 + 130,000 - 20,000 - 10,000 - 40,016, LARGE.
+        at(5,
+           [(member(40.0, -10_000, 0, 0), on), (member(130.0, 60_000, 0, 0), "1 5 1 1 99997 600000 0"),
+            (member(20.0, 20_000, 0, 0), on), (member(10.0, 30_000, 0, 0), on), "1 5 1 1 99984 600000 0"],
+           [(member(25.0, 99_999, 12, 34), on), (member(-75.0, 1, 56, 78), on), on],
+           [(member(2000.0, 33, 44, 55), on), on]),
+        # -10,000 + 60,000 - 20,000 - 30,000 is 0. 99,999 + 1; 12 + 56; 34 + 78.
+        *targets(12, "0 0 0 1", "100000 68 112 1", "-33 44 55 1"),
+        # Units 3 and 11 cannot be read, 3 for its quality, 11 for its target: BLANK with their aggregates. Point 12's run stands.
+        at(6,
+           [(member(-10.0, -20_000, 0, 0), on), (member(60.0, 20_000, 0, 0), on), (member(20.0, 0, 0, 0), on),
+            (member(30.0, 1_000, 2, 3, quality=3), none), "1 1 1 1 0 0 0"],
+           [(member(99.999, 44_000, 1, 1), on), (member(0.001, -4_000, 1, 1), on), on],
+           [(member(0.033, -1, 9, 9), none), none]),
+        # -20,000 + 20,000 - 0: the same sums as before, but not of every member. Nothing is left of 11.
+        *targets(12, "0 0 0 0", "40000 2 2 1", "0 0 0 0"),
+        # Nothing is kept for 3 and 11: BLANK.
+        at(7,
+           [(member(-20.0, -1, 10, 20), on), (member(20.0, 2, 30, 40), on), (member(0.0, 4, 50, 60), on),
+            (member(0.0, 8, 70, 80), none), "1 1 1 1 0 0 0"],
+           [(member(44.0, 7, 0, 0), on), (member(-4.0, 6, 0, 0), on), on],
+           [(member(0.0, 1_999_999, 1, 2), none), none]),
+        # -1 + 2 - 4 - 8; 10 + 30 + 50 + 70; 20 + 40 + 60 + 80. 7 + 6.
+        *targets(12, "-11 160 200 1", "13 0 0 1", "-1999999 1 2 1"),
+        # The targets of interval 1 once more: nothing adds up over intervals.
+        at(8,
+           early,
+           [(member(0.007, 60_000, 5, 0), on), (member(0.006, -60_000, 0, 9), on), on],
+           [(member(1999.999, 80_000, 11, 12), on), on]),
+        *targets(12, "-20000 1123 3247 1", "0 5 9 1", "-80000 11 12 1"),
+    ]
+
+
+def target_unreadable():
+    """Members that cannot be read, at each place of chain 4 -> 1 -> 5 -> 2 -> 3 (generating unit, load, bidirectional unit,
+    generating unit, load), point 9; those beyond count all the same. Beside it chain 7 -> 6 (generating unit, load), point 10, and
+    unit 8 in no chain.
+
+    Conformance mode is 0 in the long chain: OFF, and BLANK for a line that cannot be read; its aggregate is OFF, and BLANK with
+    such a member. The others stay at their targets. Point 10 has MWO max(100,000, 100,000): a small trigger of 600,000.
+    """
+    units = [(LOAD, 5), (GENERATING, 3), (LOAD, 0), (GENERATING, 1), (BIDIRECTIONAL, 2), (LOAD, 0), (GENERATING, 6),
+             (GENERATING, 0)]
+    none, off, on = "0 1 0 0 0 0 0", "0 0 0 0 0 0 0", "0 2 0 0 0 600000 0"
+    above_2000 = 2000.0001220703125  # the float next to 2000.0
+
+    # All five: 100,000 - 20,000 - 3,000 + 400 - 50 = 77,350; 1 + 20 + 300 + 4,000 + 50,000 = 54,321; 10,000 + 2,000 + 300 + 40 + 5
+    # = 12,345.
+    def unit_4(mw=0.0, mwb=100_000, fcr=1, fcl=10_000, **changes):
+        return aimed(mw, mwb, fcr, fcl, **changes)
+
+    def unit_1(mw=0.0, mwb=20_000, fcr=20, fcl=2_000, **changes):
+        return aimed(mw, mwb, fcr, fcl, **changes)
+
+    def unit_5(mw=0.0, mwb=-3_000, fcr=300, fcl=300, **changes):
+        return aimed(mw, mwb, fcr, fcl, **changes)
+
+    def unit_2(mw=0.0, mwb=400, fcr=4_000, fcl=40, **changes):
+        return aimed(mw, mwb, fcr, fcl, **changes)
+
+    def unit_3(mw=0.0, mwb=50, fcr=50_000, fcl=5, **changes):
+        return aimed(mw, mwb, fcr, fcl, **changes)
+
+    six, seven = aimed(80.0, 80_000, 8, 9, mode=2), aimed(50.0, 50_000, 6, 7, mode=2)
+    eight = aimed(70.0, 70_000, 900, 900)
+
+    def at(number, four, one, five, two, three, nine, seven_six_ten=((seven, on), (six, on), on), alone=(eight, on)):
+        """The lines of the long chain in its order, each with what is printed, and what is printed of its aggregate; the same of
+        the other chain; unit 8."""
+        of_seven, of_six, ten = seven_six_ten
+        return taken(number, AUTOMATIC, one, two, three, four, five, of_six, of_seven, alone, more=[nine, ten])
+
+    # Lines that can be read.
+    four, one, five, two, three = (unit_4(), off), (unit_1(), off), (unit_5(), off), (unit_2(), off), (unit_3(), off)
+    beside = "-30000 14 16 1"  # 50,000 - 80,000; 6 + 8; 7 + 9
+    broken = [(unit_4(quality=3), none), (unit_1(mode=3), none), (unit_5(cap=1), none), (unit_2(quality=4), none),
+              (unit_3(cap=2), none)]  # in the order of the chain, for quality, mode or byte 2
+    return [
+        (load(register(LENGTHS, units, [4, 7])), "load accepted 7"),
+        *targets(9, "0 0 0 0", "0 0 0 0"),
+        at(1, four, one, five, two, three, off, ((seven, none), (six, none), none), (eight, none)),
+        *targets(9, "77350 54321 12345 1", beside),
+        # The first in the chain, for its quality: less 100,000, 1 and 10,000.
+        at(2, (unit_4(quality=3), none), one, five, two, three, none),
+        *targets(9, "-22650 54320 2345 0", beside),
+        # The middle one, for its conformance mode: less -3,000, 300 and 300.
+        at(3, four, one, (unit_5(mode=3), none), two, three, none),
+        *targets(9, "80350 54021 12045 0", beside),
+        # The last, a load with a target below 0: less -50, 50,000 and 5.
+        at(4, four, one, five, two, (unit_3(mwb=-1), none), none),
+        *targets(9, "77400 4321 12340 0", beside),
+        # The second, for FCR: less -20,000, 20 and 2,000. Unit 8 cannot be read either: conformance mode 1 in no chain.
+        at(5, four, (unit_1(fcr=2_000_001), none), five, two, three, none, alone=(aimed(70.0, 70_000, 900, 900, mode=1), none)),
+        *targets(9, "97350 54301 10345 0", beside),
+        # The last but one, for FCL: less 400, 4,000 and 40. Nothing is kept for unit 8.
+        at(6, four, one, five, (unit_2(fcl=2_000_001), none), three, none, alone=(eight, none)),
+        *targets(9, "76950 50321 12305 0", beside),
+        # All can be read.
+        at(7, four, one, five, two, three, off),
+        *targets(9, "77350 54321 12345 1", beside),
+        # The first, MW no number, and the last, byte 2: -20,000 - 3,000 + 400; 20 + 300 + 4,000; 2,000 + 300 + 40.
+        at(8, (unit_4(float("nan")), none), one, five, two, (unit_3(cap=1), none), none),
+        *targets(9, "-22600 4320 2340 0", beside),
+        # The second, MWO, and the last but one, MW: 100,000 - 3,000 - 50; 1 + 300 + 50,000; 10,000 + 300 + 5.
+        at(9, four, (unit_1(mwo=2_000_001), none), five, (unit_2(above_2000), none), three, none),
+        *targets(9, "96950 50301 10305 0", beside),
+        # The first, a SCADA rate below 0, and the second, a target beyond its bound in a bad line: -3,000 + 400 - 50; 300 + 4,000 +
+        # 50,000; 300 + 40 + 5.
+        at(10, (unit_4(scada=(-1.0, 3.0)), none), (unit_1(mwb=2_000_001, quality=BAD), none), five, two, three, none),
+        *targets(9, "-2650 54300 345 0", beside),
+        # All but the last, which is a load. A generating unit's target is below 0.
+        at(11, (unit_4(quality=255), none), (unit_1(mode=255), none), (unit_5(mwb=-2_000_001), none), (unit_2(mwb=-1), none),
+           three, none),
+        *targets(9, "-50 50000 5 0", beside),
+        # All but the first. Of unit 3 byte 3 is not zero.
+        at(12, four, (unit_1(bid=(2_000_001, 3000)), none), (unit_5(bid=(3000, 2_000_001)), none),
+           (unit_2(scada=(3.0, above_2000)), none), (unit_3()[:3] + b"\1" + unit_3()[4:], none), none),
+        *targets(9, "100000 1 10000 0", beside),
+        # All but the middle one.
+        at(13, broken[0], broken[1], five, broken[3], broken[4], none),
+        *targets(9, "-3000 300 300 0", beside),
+        # All five, twice.
+        at(14, *broken, none),
+        *targets(9, "0 0 0 0", beside),
+        at(15, *broken, none),
+        *targets(9, "0 0 0 0", beside),
+        # All can be read again, with other values: 1,000 - 2,000 + 3,000 + 4,000 - 5,000; 2 + 0 + 4 + 0 + 6; 0 + 3 + 0 + 5 + 0.
+        at(16, (unit_4(mwb=1_000, fcr=2, fcl=0), off), (unit_1(mwb=2_000, fcr=0, fcl=3), off),
+           (unit_5(mwb=3_000, fcr=4, fcl=0), off), (unit_2(mwb=4_000, fcr=0, fcl=5), off),
+           (unit_3(mwb=5_000, fcr=6, fcl=0), off), off),
+        *targets(9, "1000 12 8 1", beside),
+        # The middle one cannot be read: nothing is left of its 3,000 and 4, and the others are those of this interval.
+        at(17, four, one, broken[2], two, three, none),
+        *targets(9, "80350 54021 12045 0", beside),
+        # Bad, with floats that are no numbers: not read, so the line can be.
+        at(18, four, one, (unit_5(float("nan"), scada=(float("nan"), -1.0), quality=BAD), off), two, three, off),
+        *targets(9, "77350 54321 12345 1", beside),
+        # The other chain: its last, then its first. After that nothing is kept for 6, and then for 7.
+        at(19, four, one, five, two, three, off, ((seven, on), (aimed(80.0, 80_000, 8, 9, mode=2, quality=3), none), none)),
+        *targets(9, "77350 54321 12345 1", "50000 6 7 0"),
+        at(20, four, one, five, two, three, off, ((aimed(50.0, 50_000, 6, 7, mode=2, quality=3), none), (six, none), none)),
+        *targets(9, "77350 54321 12345 1", "-80000 8 9 0"),
+        at(21, four, one, five, two, three, off, ((seven, none), (six, on), none)),
+        *targets(9, "77350 54321 12345 1", beside),
+        at(22, *broken, none),
+        *targets(9, "0 0 0 0", beside),
+    ]
+
+
+def target_between():
+    """What comes between two intervals leaves the sums, accepted or refused; an accepted load alone sets them to 0. Chain 1 -> 2
+    (generating unit, load) is point 4, unit 3 is in no chain.
+
+    Triggers as `wide` says, for point 4 too: MWO max(200,000, 200,000), ROC max(9,000, 9,000).
+    """
+    registered = register(LENGTHS, [(GENERATING, 2), (LOAD, 0), (GENERATING, 0)], [1])
+    one, two = wide(112.0, fcr=1_000, fcl=2_000, mode=2), wide(40.0, mwb=40_000, fcr=500, mode=2)
+    none, on = "0 1 0 0 0 0 0", "0 2 0 0 0 600000 0"
+
+    def at(number, first, second, *texts):
+        return accepted(interval(number, AUTOMATIC, first, second, wide(100.0)), *numbered(number, texts))
+
+    def asked(answer, *steps):
+        """The target of point 4, then each of these and after it the target again."""
+        return [*targets(4, answer), *[both for step in steps for both in (step, *targets(4, answer))]]
+
+    def one_by_one(name, number, *calls):
+        """Calls of one name that are all refused with one number, a step each."""
+        return [refused(name, number, sent) for sent in calls]
+
+    # Lines of refused intervals: other targets, and none that can be read.
+    other = wide(100.0, mwb=1, fcr=2, fcl=3, mode=2), wide(40.0, mwb=4, fcr=5, fcl=6, mode=2), wide(100.0)
+    unread = wide(100.0, mode=3), wide(40.0, mode=3), wide(100.0, mode=3)
+
+    def refused_as_sent(number):
+        """Refused whatever has gone before."""
+        good = interval(number, AUTOMATIC, *other)
+        return [
+            *one_by_one("interval", 8, given(good, 63), given(good, 65), given(good[:-1], 64), given(good + b"\0", 64),
+                        given(b"", 64), given(interval(number, AUTOMATIC, *unread), 48)),
+            *one_by_one("interval", 9, given(interval(number, 2, *other), 64), given(interval(number, 255, *unread), 64),
+                        given(good[:7] + b"\1" + good[8:], 64)),
+            *one_by_one("load", 1, load(b""), load(registered[:-1])),
+            *one_by_one("load", 2, load(bytes(16))),
+            *one_by_one("load", 3, load(register((2, 3, 3, 2, 3, 4), [(GENERATING, 0)]))),
+            *one_by_one("load", 4, load(registered[:-1] + b"\1")),
+            *one_by_one("load", 5, load(register(LENGTHS, [(GENERATING, 0)], [2]))),
+            *one_by_one("load", 6, load(register(LENGTHS, [(GENERATING, 1)], [1]))),
+            *one_by_one("load", 7, load(register(LENGTHS, [(GENERATING, 1)]))),
+            *one_by_one("load", 30, load(register(LENGTHS, [(SEMI_SCHEDULED, 0)], [1]))),
+            *one_by_one("declare", 10, declare(0, 0), declare(5, 0)),
+            *one_by_one("declare", 11, declare(1, -1), declare(4, 128_000_001)),
+            *one_by_one("reinstate", 10, reinstate(0), reinstate(5)),
+            *one_by_one("look", 10, look(0), look(5)),
+            *one_by_one("reason", 10, reason(0), reason(5)),
+            *one_by_one("target", 10, target(0), target(1), target(2), target(3), target(5)),
+        ]
+
+    def not_above(last):
+        """Refused for the number of the last accepted interval."""
+        return one_by_one("interval", 21, *[given(interval(number, AUTOMATIC, *lines), 64) for number in (last, last - 1, 0)
+                                            for lines in (other, unread)])
+
+    def at_status_0():
+        return [
+            *looks("0 0 0 0", "0 0 0 0", "0 0 0 0", "0 0 0 0"),
+            *one_by_one("declare", 22, declare(1, 0), declare(2, 0), declare(3, 0), declare(4, 0)),
+            *one_by_one("reinstate", 23, reinstate(1), reinstate(4)),
+            *one_by_one("reason", 36, reason(1), reason(4)),
+        ]
+
+    return [
+        (load(registered), "load accepted 2"),
+        *asked("0 0 0 0", *refused_as_sent(1), *at_status_0()),
+        at(10, one, two, none, none, none, none),
+        # 100,000 - 40,000; 1,000 + 500; 2,000 + 0.
+        *asked("60000 1500 2000 1", *refused_as_sent(11), *not_above(10), *at_status_0()),
+        # Unit 1: 112,000 - 101,000. Point 4: 112,000 - 40,000 - 61,500. LARGE.
+        at(11, wide(112.0, mwb=90_000, fcr=3, fcl=4, mode=2), wide(40.0, mwb=50_000, fcl=5, mode=2),
+           "1 5 1 1 11000 600000 0", on, on, "1 5 1 1 10500 600000 0"),
+        # 90,000 - 50,000; 3 + 0; 4 + 5.
+        *asked(
+            "40000 3 9 1",
+            *looks("1 1 1 0", "0 0 0 0", "0 0 0 0", "1 1 1 0"),
+            *one_by_one("declare", 22, declare(1, 0), declare(4, 0)),
+            *one_by_one("reinstate", 23, reinstate(1), reinstate(4)),
+            *one_by_one("reason", 36, reason(1), reason(4)),
+            *refused_as_sent(12),
+            *not_above(11),
+        ),
+        # 112,000 - 90,003, and 112,000 - 50,000 - 40,003. LARGE.
+        at(12, one, wide(50.0, mwb=40_000, fcr=500, mode=2), "2 5 2 2 21997 600000 0", on, on, "2 5 2 2 21997 600000 0"),
+        *asked(
+            "60000 1500 2000 1",
+            *refused_as_sent(13),
+            *looks("2 2 2 0", "0 0 0 0", "0 0 0 0", "2 2 2 0"),
+            # A member is declared, then the aggregate, and they are reinstated.
+            (declare(1, 90_000), "declare accepted"),
+            (declare(4, -5), "declare accepted"),
+            *looks("4 0 0 90000", "0 0 0 0", "0 0 0 0", "4 0 0 -5"),
+            (reason(1), "reason accepted operator 0 0"),
+            (reason(4), "reason accepted operator 0 0"),
+            *one_by_one("declare", 22, declare(1, 0), declare(4, 0)),
+            *refused_as_sent(13),
+            *not_above(12),
+            *reinstated(4),
+            *one_by_one("reinstate", 23, reinstate(4)),
+            *one_by_one("reason", 36, reason(4)),
+            *reinstated(1),
+            *at_status_0(),
+        ),
+        # Unit 2 cannot be read. Unit 1 as at 11; its runs start at 0.
+        at(13, one, wide(40.0, mwb=40_000, fcr=500, mode=2, quality=3), "1 5 1 1 11000 600000 0", none, on, none),
+        # A refused interval brings no member back.
+        *asked("100000 1000 2000 0", *refused_as_sent(14), *not_above(13), (look(4), "look accepted 0 0 0 0")),
+        # Nothing is kept for unit 2: BLANK.
+        at(14, one, two, "2 5 2 2 11000 600000 0", none, on, none),
+        *asked("60000 1500 2000 1", *refused_as_sent(15), *not_above(14)),
+        # The same register once more.
+        (load(registered), "load accepted 2"),
+        *asked("0 0 0 0", *refused_as_sent(15), *at_status_0()),
+        at(3, one, two, none, none, none, none),
+        *asked("60000 1500 2000 1", *refused_as_sent(4), *not_above(3)),
+        # Two aggregates: chain 3 is point 4, chain 2 -> 1 point 5.
+        (load(register(LENGTHS, [(GENERATING, 0), (LOAD, 1), (GENERATING, 0)], [3, 2])), "load accepted 3"),
+        *targets(4, "0 0 0 0", "0 0 0 0"),
+        refused("target", 10, target(3), target(6)),
+        accepted(interval(4, AUTOMATIC, one, two, wide(100.0, mwb=7_000, fcr=70, fcl=7, mode=2)), *numbered(4, [none] * 5)),
+        *targets(4, "7000 70 7 1", "60000 1500 2000 1"),
+        # Without aggregates; a refused load before it.
+        refused("load", 1, load(b"")),
+        *targets(4, "7000 70 7 1", "60000 1500 2000 1"),
+        (load(ONE_UNIT), "load accepted 0"),
+        refused("target", 10, target(1), target(2), target(4), target(5)),
+        # One unit in a chain, point 2. Conformance mode 0: OFF.
+        (load(register(LENGTHS, [(GENERATING, 0)], [1])), "load accepted 1"),
+        *targets(2, "0 0 0 0"),
+        refused("target", 10, target(1), target(3), target(4), target(5)),
+        accepted(interval(4, AUTOMATIC, aimed(0.0, 100_000, 1, 2)), *numbered(4, ["0 0 0 0 0 0 0"] * 2)),
+        *targets(2, "100000 1 2 1"),
+        # Two aggregates again: nothing is left of what points 4 and 5 had. Unit 3 cannot be read.
+        (load(register(LENGTHS, [(GENERATING, 0), (LOAD, 1), (GENERATING, 0)], [3, 2])), "load accepted 3"),
+        *targets(4, "0 0 0 0", "0 0 0 0"),
+        accepted(interval(5, AUTOMATIC, one, two, wide(100.0, mwb=7_000, fcr=70, fcl=7, mode=3)), *numbered(5, [none] * 5)),
+        *targets(4, "0 0 0 0", "60000 1500 2000 1"),
+        # And three, one a unit.
+        (load(register(LENGTHS, [(GENERATING, 0), (LOAD, 0), (GENERATING, 0)], [1, 2, 3])), "load accepted 3"),
+        *targets(4, "0 0 0 0", "0 0 0 0", "0 0 0 0"),
+        accepted(interval(6, AUTOMATIC, one, two, wide(100.0, mwb=7_000, fcr=70, fcl=7, mode=2)), *numbered(6, [none] * 6)),
+        *targets(4, "100000 1000 2000 1", "-40000 500 0 1", "7000 70 7 1"),
+    ]
+
+
+def target_jump():
+    """A jump in numbers makes lines stale for the marks of that interval, and then its own lines are kept: the sums are theirs.
+    Chain 2 -> 1 (load, generating unit) is point 3.
+
+    Conformance mode is 2 and MW the kept target, unless something else is said. Point 3 has MWO max(100,000, 100,000) and ROC
+    max(3,000, 3,000): triggers as `plain` says. Its target is unit 1's less unit 2's; FCR and FCL add up.
+    """
+    registered = register(LENGTHS, [(GENERATING, 0), (LOAD, 1)], [2])
+    none, off, on = "0 1 0 0 0 0 0", "0 0 0 0 0 0 0", "0 2 0 0 0 600000 0"
+
+    def both(one, two, mode=2):
+        """MW, MWB, FCR and FCL of each."""
+        return aimed(*one, mode=mode), aimed(*two, mode=mode)
+
+    def at(number, lines, *texts):
+        return accepted(interval(number, AUTOMATIC, *lines), *numbered(number, texts))
+
+    def not_above(*numbers):
+        lines = both((0.0, 1, 2, 3), (0.0, 4, 5, 6))
+        return refused("interval", 21, *[given(interval(number, AUTOMATIC, *lines), 48) for number in numbers])
+
+    return [
+        (load(registered), "load accepted 2"),
+        *targets(3, "0 0 0 0"),
+        # The first interval: any number, and nothing was kept.
+        at(500, both((0.0, 10_000, 1, 2), (0.0, 4_000, 3, 4)), none, none, none),
+        *targets(3, "6000 4 6 1"),  # 10,000 - 4,000; 1 + 3; 2 + 4
+        at(501, both((10.0, 20_000, 10, 20), (4.0, 1_000, 30, 40)), on, on, on),
+        *targets(3, "19000 40 60 1"),
+        # One number is left out: BLANK. Asked several times, it is the same.
+        at(503, both((20.0, 30_000, 5, 6), (1.0, 50_000, 7, 8)), none, none, none),
+        *targets(3, "-20000 12 14 1") * 3,
+        at(504, both((30.0, 1_000, 0, 0), (50.0, 2_000, 0, 0)), on, on, on),
+        *targets(3, "-1000 0 0 1"),
+        # A jump, and unit 2, the first in the chain, cannot be read. Nothing is left of the lines of 504.
+        at(1_000, (aimed(1.0, 9_000, 100, 200, mode=2), aimed(2.0, 3_000, 300, 400, mode=2, quality=3)), none, none, none),
+        *targets(3, "9000 100 200 0"),
+        # Unit 1 has a kept line, unit 2 has not.
+        at(1_001, both((9.0, 8_000, 1, 1), (3.0, 7_000, 2, 2)), on, none, none),
+        *targets(3, "1000 3 3 1"),
+        # A jump, and unit 1, the last in the chain, cannot be read.
+        at(1_003, (aimed(8.0, 5_000, 1, 2, mode=3), aimed(7.0, 6_000, 3, 4, mode=2)), none, none, none),
+        *targets(3, "-6000 3 4 0"),
+        # A jump with nothing that can be read, and a jump after it.
+        at(2_000, both((8.0, 8_000, 1, 1), (7.0, 7_000, 2, 2), mode=3), none, none, none),
+        *targets(3, "0 0 0 0"),
+        at(3_000, both((8.0, 6_000, 11, 12), (7.0, 16_000, 13, 14)), none, none, none),
+        *targets(3, "-10000 24 26 1"),
+        # Conformance mode 0 goes before nothing kept: OFF.
+        at(4_000, both((6.0, 6_001, 0, 1), (16.0, 1, 1, 0), mode=0), off, off, off),
+        *targets(3, "6000 1 1 1"),
+        # To the highest number but one, and to the highest.
+        at(4_294_967_294, both((6.001, 21_000, 2, 3), (0.001, 1_000, 4, 5)), none, none, none),
+        *targets(3, "20000 6 8 1"),
+        at(4_294_967_295, both((21.0, 500, 50, 60), (1.0, 1_500, 70, 80)), on, on, on),
+        *targets(3, "-1000 120 140 1"),
+        not_above(0, 1, 4_294_967_294, 4_294_967_295),
+        *targets(3, "-1000 120 140 1") * 2,
+        # The highest number as the first.
+        (load(registered), "load accepted 2"),
+        *targets(3, "0 0 0 0"),
+        at(4_294_967_295, both((0.0, 7, 8, 9), (0.0, 1, 2, 3)), none, none, none),
+        *targets(3, "6 10 12 1"),
+        not_above(0, 4_294_967_295),
+        *targets(3, "6 10 12 1"),
+        # 0 as the first, 1, then a jump to the highest.
+        (load(registered), "load accepted 2"),
+        *targets(3, "0 0 0 0"),
+        at(0, both((0.0, 70, 80, 90), (0.0, 10, 20, 30)), none, none, none),
+        *targets(3, "60 100 120 1"),
+        not_above(0),
+        *targets(3, "60 100 120 1"),
+        at(1, both((0.07, 71, 81, 91), (0.01, 11, 22, 33)), on, on, on),
+        *targets(3, "60 103 124 1"),
+        at(4_294_967_295, both((0.071, 5, 5, 5), (0.011, 6, 6, 6)), none, none, none),
+        *targets(3, "-1 11 11 1"),
+    ]
+
+
+def target_refusals():
+    """20, then 10: the point of a unit too. Chain 2 -> 4 (load, bidirectional unit) is point 5, chain 1 (generating unit) point 6;
+    unit 3 (semi-scheduled) is in no chain."""
+    units = [(GENERATING, 0), (LOAD, 4), (SEMI_SCHEDULED, 0), (BIDIRECTIONAL, 0)]
+    registered = register(LENGTHS, units, [2, 1])
+    # Point 0, the units, n+m+1 and on, and some whose low bytes are 5 or 6.
+    beyond = [0, 1, 2, 3, 4, 7, 8, 64, 65, 80, 81, 255, 256, 261, 262, 65_541, 2**24 + 5, 2**31 + 5, 2**31 + 6, 2**32 - 1]
+    ten = refused("target", 10, *[target(point) for point in beyond])
+    twenty = refused("target", 20, *[target(point) for point in (5, 6, *beyond)])
+    none, on = "0 1 0 0 0 0 0", "0 2 0 0 0 600000 0"
+    # 5: -40,000 - 50,000; 1 + 3; 2 + 4.
+    kept = targets(5, "-90000 4 6 1", "100000 0 0 1")
+
+    def at(number, one, five, six):
+        """Units 1 and 3 are 11,000 over, LARGE, and so is point 6, which has one member's sums. Units 2 and 4 stay at their
+        targets, and point 5 with them: MWO max(200,000, 200,000), ROC max(9,000, 9,000)."""
+        two, four = wide(40.0, mwb=40_000, fcr=1, fcl=2, mode=2), wide(-50.0, mwb=-50_000, fcr=3, fcl=4, mode=2)
+        return taken(number, AUTOMATIC, (wide(111.0, mode=2), one), (two, five), (wide(111.0, cap=1), one), (four, five),
+                     more=[five, six])
+
+    def run(number, status):
+        """Three marks bring the status to 1, 2 and 3."""
+        large = f"{status} 5 {status} {status} 11000 600000 0"
+        return at(number, large, on, large)
+
+    return [
+        # 20 goes before 10; a refused load leaves no register.
+        twenty,
+        refused("load", 1, load(b""), load(registered[:-1])),
+        twenty,
+        refused("load", 3, load(register((2, 3, 3, 2, 3, 4), units, [2, 1]))),
+        refused("load", 4, load(registered[:-1] + b"\1")),
+        refused("load", 30, load(register(LENGTHS, units, [2, 1, 3]))),
+        twenty,
+        (load(registered), "load accepted 3"),
+        ten,
+        *targets(5, "0 0 0 0", "0 0 0 0"),
+        # Status 0 to 4 of a unit and of an aggregate: the same refusals, and no other.
+        at(1, none, none, none),
+        ten,
+        *kept,
+        run(2, 1),
+        ten,
+        *kept,
+        run(3, 2),
+        ten,
+        *kept,
+        run(4, 3),
+        ten,
+        *kept,
+        # Run 4: declared at 111,000.
+        at(5, "4 5 0 0 11000 600000 111000", on, "4 5 0 0 11000 600000 111000"),
+        ten,
+        *kept,
+        *reinstated(1, 6),
+        ten,
+        *kept,
+        # A refused load changes nothing.
+        refused("load", 2, load(bytes(16))),
+        refused("load", 5, load(register(LENGTHS, units, [2, 5]))),
+        ten,
+        *kept,
+        # No aggregates: every point.
+        (load(TWO_UNITS), "load accepted 0"),
+        refused("target", 10, *[target(point) for point in (1, 2, 3, 5, 6, *beyond)]),
+        taken(6, AUTOMATIC, (ON, none), (ON, none)),
+        refused("target", 10, *[target(point) for point in (1, 2, 3, 5, 6, *beyond)]),
+        (load(register(LENGTHS, [(GENERATING, 0)] * 64)), "load accepted 0"),
+        refused("target", 10, *[target(point) for point in range(82)], target(2**32 - 1)),
+        # One unit in a chain: point 2 alone is an aggregate's.
+        (load(register(LENGTHS, [(LOAD, 0)], [1])), "load accepted 1"),
+        refused("target", 10, target(0), target(1), target(3), target(257), target(258)),
+        *targets(2, "0 0 0 0"),
+        # One chain of two: point 3.
+        (load(register(LENGTHS, [(LOAD, 0), (LOAD, 1)], [2])), "load accepted 2"),
+        refused("target", 10, target(0), target(1), target(2), target(4), target(259)),
+        *targets(3, "0 0 0 0"),
+    ]
+
+
+def target_plant():
+    """64 units in 16 chains of four, k -> k + 16 -> k + 32 -> k + 48 (generating unit, load, bidirectional unit, load), points 65
+    to 80; then 64 units in one chain, 64 -> 63 and so on to 1, point 65. Targets and regulation up to their bounds."""
+    kinds = [GENERATING] * 16 + [LOAD] * 16 + [BIDIRECTIONAL] * 16 + [LOAD] * 16
+    units = [(kind, unit + 16 if unit <= 48 else 0) for unit, kind in enumerate(kinds, 1)]
+    none, off, on = "0 1 0 0 0 0 0", "0 0 0 0 0 0 0", "0 2 0 0 0 600000 0"
+
+    # Of unit u: MWB 1,000 u, and -1,000 u for a bidirectional unit; FCR u, FCL 10 u. Of chain k: 1,000 times k - (k + 16) -
+    # (k + 32) - (k + 48), that is -2 k - 96; k + (k + 16) + (k + 32) + (k + 48), that is 4 k + 96; ten times that.
+    def rising(unit, kind, **changes):
+        return aimed(0.0, -1_000 * unit if kind == BIDIRECTIONAL else 1_000 * unit, unit, 10 * unit, **changes)
+
+    of_rising = [
+        "-98000 100 1000 1", "-100000 104 1040 1", "-102000 108 1080 1", "-104000 112 1120 1",
+        "-106000 116 1160 1", "-108000 120 1200 1", "-110000 124 1240 1", "-112000 128 1280 1",
+        "-114000 132 1320 1", "-116000 136 1360 1", "-118000 140 1400 1", "-120000 144 1440 1",
+        "-122000 148 1480 1", "-124000 152 1520 1", "-126000 156 1560 1", "-128000 160 1600 1"]
+    # Chain 1 lacks its first member, 2 its second, 3 its third and 4 its last; chain 16 lacks all four.
+    unread = 1, 18, 35, 52, 16, 32, 48, 64
+    of_read = [
+        "-99000 99 990 0",  # -17,000 - 33,000 - 49,000; 17 + 33 + 49
+        "-82000 86 860 0",  # 2,000 - 34,000 - 50,000; 2 + 34 + 50
+        "-67000 73 730 0",  # 3,000 - 19,000 - 51,000; 3 + 19 + 51
+        "-52000 60 600 0",  # 4,000 - 20,000 - 36,000; 4 + 20 + 36
+        *of_rising[4:15], "0 0 0 0"]
+    blank = *unread, 65, 66, 67, 68, 80  # points: those units and the aggregates that have one of them
+
+    def at(number, lines, texts=(off,) * 80):
+        """Conformance mode 0: OFF, and BLANK for what cannot be read."""
+        return accepted(interval(number, AUTOMATIC, *lines), *numbered(number, texts))
+
+    all_rising = [rising(unit, kind) for unit, kind in enumerate(kinds, 1)]
+    low_of = {GENERATING: aimed(0.0, 0, 0, 2_000_000), LOAD: aimed(0.0, 2_000_000, 0, 2_000_000),
+              BIDIRECTIONAL: aimed(0.0, -2_000_000, 0, 2_000_000)}
+    high_of = {GENERATING: aimed(0.0, 2_000_000, 2_000_000, 0), LOAD: aimed(0.0, 0, 2_000_000, 0),
+               BIDIRECTIONAL: aimed(0.0, 2_000_000, 2_000_000, 0)}
+
+    def one_chain(*two_kinds):
+        """The two kinds are those of units with an odd and with an even number."""
+        return load(register(LENGTHS, [(kind, unit - 1) for unit, kind in enumerate(two_kinds * 32, 1)], [64]))
+
+    def most(mwb, **changes):
+        return aimed(2000.0, mwb, 2_000_000, 2_000_000, **changes)
+
+    def without(*broken):
+        """64 generating units at 2,000,000, mode 2; these cannot be read."""
+        return [most(2_000_000, mode=2, quality=3 if unit in broken else 0) for unit in range(1, 65)]
+
+    return [
+        (load(register(LENGTHS, units, range(1, 17))), "load accepted 64"),
+        *targets(65, *["0 0 0 0"] * 16),
+        refused("target", 10, target(64), target(81), target(0)),
+        at(1, all_rising),
+        *targets(65, *of_rising),
+        refused("target", 10, *[target(point) for point in range(65)], target(81), target(321)),
+        # The lowest: 0 - 2,000,000 - 2,000,000 - 2,000,000, and 4 x 2,000,000. The highest: 2,000,000 - 0 + 2,000,000 - 0.
+        at(2, [low_of[kind] for kind in kinds]),
+        *targets(65, *["-6000000 0 8000000 1"] * 16),
+        at(3, [high_of[kind] for kind in kinds]),
+        *targets(65, *["4000000 8000000 0 1"] * 16),
+        at(4, [rising(unit, kind, quality=3 if unit in unread else 0) for unit, kind in enumerate(kinds, 1)],
+           [none if point in blank else off for point in range(1, 81)]),
+        *targets(65, *of_read),
+        at(5, all_rising),
+        *targets(65, *of_rising),
+        # One chain of 64 generating units, each at its target of 2,000,000: 64 x 2,000,000 for all three sums.
+        (one_chain(GENERATING, GENERATING), "load accepted 64"),
+        *targets(65, "0 0 0 0"),
+        refused("target", 10, target(64), target(66), target(80)),
+        at(1, without(), [none] * 65),
+        *targets(65, "128000000 128000000 128000000 1"),
+        # The aggregate: MWO 6,400,000, ROC 192,000: small trigger min(19,200,000, 38,400,000).
+        at(2, without(), [*[on] * 64, "0 2 0 0 0 19200000 0"]),
+        *targets(65, "128000000 128000000 128000000 1"),
+        # The first in the chain, then the last, then the 33rd, each with nothing kept at the next: 63 x 2,000,000.
+        at(3, without(64), [*[on] * 63, none, none]),
+        *targets(65, "126000000 126000000 126000000 0"),
+        at(4, without(1), [none, *[on] * 62, none, none]),
+        *targets(65, "126000000 126000000 126000000 0"),
+        at(5, without(32), [none, *[on] * 30, none, *[on] * 32, none]),
+        *targets(65, "126000000 126000000 126000000 0"),
+        # The first 63 of the chain: unit 1 is left.
+        at(6, without(*range(2, 65)), [on, *[none] * 64]),
+        *targets(65, "2000000 2000000 2000000 0"),
+        at(7, without(*range(1, 65)), [none] * 65),
+        *targets(65, "0 0 0 0"),
+        at(8, without(), [none] * 65),
+        *targets(65, "128000000 128000000 128000000 1"),
+        # 64 loads. Conformance mode 0 from here on.
+        (one_chain(LOAD, LOAD), "load accepted 64"),
+        *targets(65, "0 0 0 0"),
+        at(1, [most(2_000_000)] * 64, [off] * 65),
+        *targets(65, "-128000000 128000000 128000000 1"),
+        # 64 bidirectional units: the lowest, the highest, and 32 of either.
+        (one_chain(BIDIRECTIONAL, BIDIRECTIONAL), "load accepted 64"),
+        *targets(65, "0 0 0 0"),
+        at(1, [most(-2_000_000)] * 64, [off] * 65),
+        *targets(65, "-128000000 128000000 128000000 1"),
+        at(2, [most(2_000_000)] * 64, [off] * 65),
+        *targets(65, "128000000 128000000 128000000 1"),
+        at(3, [most(2_000_000), most(-2_000_000)] * 32, [off] * 65),
+        *targets(65, "0 128000000 128000000 1"),
+        # 32 loads and 32 bidirectional units; 32 generating units and 32 loads, together and either alone.
+        (one_chain(LOAD, BIDIRECTIONAL), "load accepted 64"),
+        at(1, [most(2_000_000), most(-2_000_000)] * 32, [off] * 65),
+        *targets(65, "-128000000 128000000 128000000 1"),
+        (one_chain(GENERATING, LOAD), "load accepted 64"),
+        at(1, [most(2_000_000)] * 64, [off] * 65),
+        *targets(65, "0 128000000 128000000 1"),
+        at(2, [most(2_000_000), most(2_000_000, quality=3)] * 32, [*[off, none] * 32, none]),
+        *targets(65, "64000000 64000000 64000000 0"),
+        at(3, [most(2_000_000, quality=3), most(2_000_000)] * 32, [*[none, off] * 32, none]),
+        *targets(65, "-64000000 64000000 64000000 0"),
+        # A target or a regulation of 2,000,001 cannot be read.
+        at(4, [aimed(0.0, 2_000_001, 0, 0), aimed(0.0, 0, 2_000_001, 0)] * 32, [none] * 65),
+        *targets(65, "0 0 0 0"),
+    ]
+
+
+def target_declared():
+    """Aggregates that are declared and reinstated have their sums all the same. Chain 1 -> 2 (generating unit, load) is point 5,
+    chain 3 -> 4 (bidirectional unit, load) point 6.
+
+    Triggers as `wide` says, for the aggregates too: MWO max(200,000, 200,000), ROC max(9,000, 9,000). To interval 5 unit 1 is
+    11,000 over its kept target and unit 3 12,000 under; units 2 and 4 are at theirs. Point 5 is 11,000 over, less 500 of
+    regulation, point 6 12,000 under, less 600: all four are LARGE.
+    """
+    on = "0 2 0 0 0 600000 0"
+
+    def at(number, one, two, three, four, texts, **changes):
+        """MW, MWB, FCR and FCL of each."""
+        lines = [wide(mw, **({"mwb": mwb, "fcr": fcr, "fcl": fcl, "mode": 2} | changes)) for mw, mwb, fcr, fcl in
+                 (one, two, three, four)]
+        return accepted(interval(number, AUTOMATIC, *lines), *numbered(number, texts))
+
+    def run(status):
+        return [f"{status} 5 {status} {status} 11000 600000 0", on, f"{status} 5 {status} {status} -12000 600000 0", on,
+                f"{status} 5 {status} {status} 10500 600000 0", f"{status} 5 {status} {status} -11400 600000 0"]
+
+    return [
+        (load(register(LENGTHS, [(GENERATING, 2), (LOAD, 0), (BIDIRECTIONAL, 4), (LOAD, 0)], [1, 3])), "load accepted 4"),
+        *targets(5, "0 0 0 0", "0 0 0 0"),
+        at(1, (100.0, 100_000, 0, 10), (40.0, 40_000, 500, 7), (-50.0, -50_000, 20, 0), (30.0, 30_000, 0, 600),
+           ["0 1 0 0 0 0 0"] * 6),
+        # 100,000 - 40,000; 0 + 500; 10 + 7. -50,000 - 30,000; 20 + 0; 0 + 600.
+        *targets(5, "60000 500 17 1", "-80000 20 600 1"),
+        # To interval 5 unit 1's target rises by 10,000 and its FCL by 10, the targets of 2 and 4 rise by 1,000 and 3's falls by
+        # 1,000: point 5 has 9,000 more, and 10 more to lower, point 6 2,000 less.
+        at(2, (111.0, 110_000, 0, 20), (40.0, 41_000, 500, 7), (-62.0, -51_000, 20, 0), (30.0, 31_000, 0, 600), run(1)),
+        *targets(5, "69000 500 27 1", "-82000 20 600 1"),
+        at(3, (121.0, 120_000, 0, 30), (41.0, 42_000, 500, 7), (-63.0, -52_000, 20, 0), (31.0, 32_000, 0, 600), run(2)),
+        *targets(5, "78000 500 37 1", "-84000 20 600 1"),
+        # The operator declares point 6.
+        (declare(6, -84_001), "declare accepted"),
+        *targets(5, "78000 500 37 1", "-84000 20 600 1"),
+        at(4, (131.0, 130_000, 0, 40), (42.0, 43_000, 500, 7), (-64.0, -53_000, 20, 0), (32.0, 33_000, 0, 600),
+           [*run(3)[:5], "4 5 0 0 -11400 600000 -84001"]),
+        *targets(5, "87000 500 47 1", "-86000 20 600 1"),
+        # Run 4: declared, point 5 at 141,000 - 43,000.
+        at(5, (141.0, 140_000, 0, 50), (43.0, 44_000, 500, 7), (-65.0, -54_000, 20, 0), (33.0, 34_000, 0, 600), [
+            "4 5 0 0 11000 600000 141000", on, "4 5 0 0 -12000 600000 -65000", on, "4 5 0 0 10500 600000 98000",
+            "4 5 0 0 -11400 600000 -84001"]),
+        *targets(5, "96000 500 57 1", "-88000 20 600 1"),
+        (look(5), "look accepted 4 0 0 98000"),
+        (look(6), "look accepted 4 0 0 -84001"),
+        (reason(5), "reason accepted large 2 5"),
+        (reason(6), "reason accepted operator 0 0"),
+        refused("declare", 22, declare(5, 0), declare(6, 0)),
+        *targets(5, "96000 500 57 1", "-88000 20 600 1"),
+        # On the kept targets while declared: CLEAR. The levels stand and the sums do not.
+        at(6, (140.0, 1_000, 1, 2), (44.0, 3_000, 4, 5), (-54.0, 6_000, 7, 8), (34.0, 2_000, 10, 11), [
+            "4 2 0 0 0 600000 141000", on, "4 2 0 0 0 600000 -65000", on, "4 2 0 0 0 600000 98000", "4 2 0 0 0 600000 -84001"]),
+        # 1,000 - 3,000; 1 + 4; 2 + 5. 6,000 - 2,000; 7 + 10; 8 + 11.
+        *targets(5, "-2000 5 7 1", "4000 17 19 1"),
+        # Unit 2 cannot be read, a target below 0: BLANK with point 5.
+        at(7, (1.0, 2_000, 3, 4), (3.0, -1, 5, 6), (6.0, -7_000, 1, 2), (2.0, 9_000, 3, 4), [
+            "4 2 0 0 0 600000 141000", "0 1 0 0 0 0 0", "4 2 0 0 0 600000 -65000", on, "4 1 0 0 0 0 98000",
+            "4 2 0 0 0 600000 -84001"]),
+        *targets(5, "2000 3 4 0", "-16000 4 6 1"),
+        # Point 5 is reinstated, and its sums stand.
+        *reinstated(5),
+        *targets(5, "2000 3 4 0", "-16000 4 6 1"),
+        (look(5), "look accepted 0 0 0 0"),
+        refused("reason", 36, reason(5)),
+        # Nothing is kept for unit 2: BLANK with point 5.
+        at(8, (2.0, 100_000, 0, 0), (3.0, 40_000, 0, 0), (-7.0, -50_000, 0, 0), (9.0, 30_000, 0, 0), [
+            "4 2 0 0 0 600000 141000", "0 1 0 0 0 0 0", "4 2 0 0 0 600000 -65000", on, "0 1 0 0 0 0 0", "4 2 0 0 0 600000 -84001"]),
+        *targets(5, "60000 0 0 1", "-80000 0 0 1"),
+        # All modes 0: OFF.
+        at(9, (0.0, 200_000, 1, 2), (0.0, 50_000, 3, 4), (0.0, -60_000, 5, 6), (0.0, 10_000, 7, 8), [
+            "4 0 0 0 0 0 141000", "0 0 0 0 0 0 0", "4 0 0 0 0 0 -65000", "0 0 0 0 0 0 0", "0 0 0 0 0 0 0", "4 0 0 0 0 0 -84001"],
+           mode=0),
+        *targets(5, "150000 4 6 1", "-70000 12 14 1"),
+        # The members are reinstated, then point 6.
+        *reinstated(1, 3),
+        *targets(5, "150000 4 6 1", "-70000 12 14 1"),
+        *reinstated(6),
+        *targets(5, "150000 4 6 1", "-70000 12 14 1"),
+        # All bad: BLANK, and kept.
+        at(10, (0.0, 1, 0, 0), (0.0, 2, 0, 0), (0.0, 3, 0, 0), (0.0, 4, 0, 0), ["0 1 0 0 0 0 0"] * 6, quality=BAD),
+        *targets(5, "-1 0 0 1", "-1 0 0 1"),
+    ]
+
+
+def target_asked():
+    """The calls of `operator_declaration`, and after each of them the target twice. Asking changes nothing, so the rest is what it
+    was."""
+    steps = operator_declaration()
+    # The load's target is 100,000 and the battery's -50,000 throughout, with no regulation.
+    answers = ["0 0 0 0", *["-150000 0 0 1"] * (len(steps) - 1)]
+    return [each for step, answer in zip(steps, answers) for each in (step, *targets(4, answer) * 2)]
+
+
+def target_asked_in_chains():
+    """The same with the calls of `levels_in_chains`, which has three aggregates."""
+    steps = levels_in_chains()
+    answers = [
+        "0 0 0 0",  # after the load
+        *["-100000 0 0 1"] * 17,  # `far`, 100,000 - 100,000 - 100,000: five intervals and twelve looks
+        *["-15000 0 0 1"] * 55,  # `near` from interval 6 on, 8,000 - 15,000 - 8,000
+    ]
+    return [each for step, answer in zip(steps, answers, strict=True) for each in (step, *targets(10, answer, answer, answer))]
+
+
 # ---- two lists that are alike for one group
 
 
@@ -2604,6 +3364,135 @@ def alike_reasons_2():
     )
 
 
+def alike_targets(others, between):
+    """Chain 1 -> 3 (generating unit, load) with its aggregate, point 6, is the group. Outside of it: generating unit 2 in no chain,
+    and chain 5 -> 4 (bidirectional unit, load) with its aggregate, point 7.
+
+    others: for the interval of each number the lines of units 2, 4 and 5, and what is printed of points 2, 4, 5 and 7; between:
+    operator calls outside the group after the interval of that number. Gives the steps as `alike` does.
+    """
+    units = [(GENERATING, 3), (GENERATING, 0), (LOAD, 0), (LOAD, 0), (BIDIRECTIONAL, 4)]
+    steps = [(True, load(register(LENGTHS, units, [1, 5])), "load accepted 4")]
+    none, on = "0 1 0 0 0 0 0", "0 2 0 0 0 600000 0"
+
+    # Triggers as `wide` says, for the aggregate too: MWO max(200,000, 200,000), ROC max(9,000, 9,000).
+    def buffer_of(number, one, three, lines):
+        """MW, MWB, FCR and FCL of units 1 and 3, and then a quality if it is not good."""
+        sent = [wide(mw, mwb=mwb, fcr=fcr, fcl=fcl, mode=2, quality=quality[0] if quality else 0)
+                for mw, mwb, fcr, fcl, *quality in (one, three)]
+        return interval(number, AUTOMATIC, sent[0], lines[0], sent[1], *lines[1:])
+
+    def at(number, one, three, *ours):
+        lines, theirs = others[number]
+        texts = ours[0], theirs[0], ours[1], theirs[1], theirs[2], ours[2], theirs[3]
+        steps.append((True, given(buffer_of(number, one, three, lines), 112), "interval accepted"))
+        steps.extend((point in (1, 3, 6), b"", f"{number} {point} {text}") for point, text in enumerate(texts, 1))
+        steps.extend((False, *step) for step in between.get(number, []))
+
+    def named(sent, text):
+        steps.append((True, sent, text))
+
+    def told(answer):
+        """The target of point 6; its members' points are refused."""
+        named(target(6), f"target accepted {answer}")
+        named(target(1), "target refused 10")
+        named(target(3), "target refused 10")
+        named(target(6), f"target accepted {answer}")
+
+    told("0 0 0 0")
+    at(1, (100.0, 100_000, 1_000, 2_000), (40.0, 40_000, 500, 0), none, none, none)  # nothing kept
+    told("60000 1500 2000 1")
+    at(2, (100.0, 110_000, 1, 2), (40.0, 30_000, 3, 4), on, on, on)
+    told("80000 4 6 1")
+    # 121,000 - 110,001, and 121,000 - 30,000 - 80,004: LARGE.
+    at(3, (121.0, 100_000, 1_000, 2_000), (30.0, 40_000, 500, 0), "1 5 1 1 10999 600000 0", on, "1 5 1 1 10996 600000 0")
+    told("60000 1500 2000 1")
+    # Refused in both lists: the number of the last accepted, then a report one record short.
+    for number, report, refusal in ((3, 112, 21), (4, 96, 8)):
+        buffer = buffer_of(number, (0.0, 1, 2, 3), (0.0, 4, 5, 6), others[number][0])
+        steps.append((True, given(buffer, report), f"interval refused {refusal}"))
+        told("60000 1500 2000 1")
+    # Unit 1 cannot be read, the first in the chain. Then unit 3, while nothing is kept for 1. Then neither.
+    at(4, (100.0, 90_000, 1, 2, 3), (40.0, 41_000, 5, 6), "1 1 1 1 0 0 0", on, "1 1 1 1 0 0 0")
+    told("-41000 5 6 0")
+    at(5, (90.0, 90_000, 7, 8), (41.0, 40_000, 9, 9, 3), "1 1 1 1 0 0 0", none, "1 1 1 1 0 0 0")
+    told("90000 7 8 0")
+    at(6, (90.0, 90_000, 7, 8, 3), (41.0, 40_000, 9, 9, 3), "1 1 1 1 0 0 0", none, "1 1 1 1 0 0 0")
+    told("0 0 0 0")
+    # A jump: nothing kept for the marks, and the sums are those of its lines.
+    at(9, (100.0, 50_000, 5, 6), (40.0, 60_000, 7, 8), "1 1 1 1 0 0 0", none, "1 1 1 1 0 0 0")
+    told("-10000 12 14 1")
+    # 70,000 - 50,005, and 70,000 - 60,000 - (-10,000 + 12): LARGE.
+    at(10, (70.0, 52_000, 5, 6), (60.0, 61_000, 7, 9), "2 5 2 2 19995 600000 0", on, "2 5 2 2 19988 600000 0")
+    told("-9000 12 15 1")
+    named(declare(6, -7), "declare accepted")
+    told("-9000 12 15 1")
+    named(look(6), "look accepted 4 0 0 -7")
+    named(reason(6), "reason accepted operator 0 0")
+    named(reinstate(6), "reinstate accepted")
+    told("-9000 12 15 1")
+    at(11, (52.0, 33_000, 0, 0), (61.0, 33_000, 0, 0), on, on, on)
+    told("0 0 0 1")
+    return steps
+
+
+def alike_targets_1():
+    """Unit 2 is declared and reinstated. The other chain can be read, and its target changes and is asked."""
+    # Unit 2 is 11,000 over: LARGE. Units 4 and 5 stay at their kept targets, and point 7 with them.
+    none, on = "0 1 0 0 0 0 0", "0 2 0 0 0 600000 0"
+
+    def lines(four=20.0, target_of_four=20_000):
+        return FAR, wide(four, mwb=target_of_four, fcr=3, fcl=4, mode=2), wide(-50.0, mwb=-50_000, fcr=1, fcl=2, mode=2)
+
+    return alike_targets(
+        {
+            1: (lines(), (none, none, none, none)),
+            2: (lines(), ("1 5 1 1 11000 600000 0", on, on, on)),
+            3: (lines(), ("2 5 2 2 11000 600000 0", on, on, on)),
+            4: (lines(20.0, 25_000), ("4 5 0 0 11000 600000 5", on, on, on)),  # unit 2 was declared after 3
+            5: (lines(25.0, 20_000), ("4 5 0 0 11000 600000 5", on, on, on)),
+            6: (lines(), ("1 5 1 1 11000 600000 0", on, on, on)),  # and reinstated after 5
+            9: (lines(), ("1 1 1 1 0 0 0", none, none, none)),
+            10: (lines(), ("2 5 2 2 11000 600000 0", on, on, on)),
+            11: (lines(), ("3 5 3 3 11000 600000 0", on, on, on)),
+        },
+        {
+            # -50,000 - 20,000; 1 + 3; 2 + 4.
+            1: [*targets(7, "-70000 4 6 1") * 2, refused("target", 10, target(0), target(2), target(4), target(5), target(8))],
+            3: [(declare(2, 5), "declare accepted"), *targets(7, "-70000 4 6 1"), (look(7), "look accepted 0 0 0 0")],
+            4: targets(7, "-75000 4 6 1"),
+            5: [*targets(7, "-70000 4 6 1"), (reinstate(2), "reinstate accepted"), *targets(7, "-70000 4 6 1")],
+            9: targets(7, "-70000 4 6 1"),
+            10: [refused("declare", 22, declare(7, 0)), refused("reinstate", 23, reinstate(7)), *targets(7, "-70000 4 6 1")],
+            11: [*targets(7, "-70000 4 6 1"), refused("target", 10, target(2))],
+        },
+    )
+
+
+def alike_targets_2():
+    """Unit 2 cannot be read, nor can unit 5 from the second interval to the last but one; other calls for other targets."""
+    # Unit 2 has conformance mode 1 in no chain: BLANK. Units 4 and 5 have mode 0: OFF, and point 7 with them, but BLANK where unit
+    # 5 cannot be read.
+    none, off = "0 1 0 0 0 0 0", "0 0 0 0 0 0 0"
+
+    def lines(quality):
+        return wide(100.0, mode=1), wide(5.0, mwb=5_000, fcr=9), wide(0.0, mwb=9_000, fcl=30, quality=quality)
+
+    whole, part = (lines(0), (none, off, off, off)), (lines(3), (none, off, none, none))
+    return alike_targets(
+        {1: whole, 2: part, 3: part, 4: part, 5: part, 6: part, 9: part, 10: part, 11: whole},
+        {
+            # Unit 4, a load, alone.
+            2: targets(7, "-5000 9 0 0") * 3,
+            3: [refused("target", 10, target(2), target(262), target(2**32 - 1)), refused("declare", 22, declare(7, 0))],
+            6: [refused("reason", 36, reason(7)), *targets(7, "-5000 9 0 0"), (look(2), "look accepted 0 0 0 0")],
+            10: [refused("target", 10, target(5)), refused("reinstate", 10, reinstate(8))],
+            # 9,000 - 5,000; 0 + 9; 30 + 0.
+            11: [*targets(7, "4000 9 30 1"), refused("target", 10, target(4), target(0))],
+        },
+    )
+
+
 # ---- script errors
 
 
@@ -2631,12 +3520,14 @@ SCRIPT_ERRORS = {
     "script_no_payload": cut_short(look(1)[:8]),
     "script_short_payload": cut_short(look(1)[:11]),
     "script_short_reason": cut_short(reason(1)[:11]),
+    "script_short_target": cut_short(target(1)[:11]),
     "script_short_interval": cut_short(given(interval(1, AUTOMATIC, plain(100.0)), 16)[:-1]),
-    # Tags that no call has; the last two have the low byte of a look and of a reason.
+    # Tags that no call has; the last three have the low byte of a look, of a reason and of a target.
     "script_tag_0": script_error(call(0, bytes(4))),
-    "script_tag_7": script_error(call(7, bytes(4))),
+    "script_tag_8": script_error(call(8, bytes(4))),
     "script_tag_261": script_error(call(261, bytes([1, 0, 0, 0]))),
     "script_tag_262": script_error(call(262, bytes([1, 0, 0, 0]))),
+    "script_tag_263": script_error(call(263, bytes([1, 0, 0, 0]))),
     # Payloads of another size.
     "script_declare_4": script_error(call(3, bytes([1, 0, 0, 0]))),
     "script_declare_9": script_error(call(3, bytes(9))),
@@ -2648,6 +3539,10 @@ SCRIPT_ERRORS = {
     "script_reason_3": script_error(call(6, bytes([1, 0, 0]))),
     "script_reason_5": script_error(call(6, bytes([1, 0, 0, 0, 0]))),
     "script_reason_8": script_error(call(6, bytes([1, 0, 0, 0, 0, 0, 0, 0]))),
+    "script_target_0": script_error(call(7, b"")),
+    "script_target_3": script_error(call(7, bytes([1, 0, 0]))),
+    "script_target_5": script_error(call(7, bytes([1, 0, 0, 0, 0]))),
+    "script_target_8": script_error(call(7, bytes([1, 0, 0, 0, 0, 0, 0, 0]))),
     # A payload over 8,192 bytes, all there; and a length that no file has.
     "script_load_8193": script_error(call(1, bytes(8_193))),
     "script_interval_8193": script_error(call(2, bytes(8_193))),
@@ -2671,8 +3566,11 @@ LISTS = [every_status, operator_declaration, refusals_without_register, refusals
          last_number, full_plant, limits, solar, solar_plant, levels, levels_in_chains, levels_of_one, operator_levels,
          levels_load_again, levels_plant, each_reason, every_status_asked, reason_both_runs, reason_manual_runs,
          reason_small_in_midst, reason_blank_and_doubt, reason_off_and_clear, reason_jump, reason_backlog, reason_past_255,
-         reason_stays, reason_reinstated, reason_refused_calls, reason_refusals, reason_of_aggregate, reason_numbers, reason_plant]
-ALIKE = [(alike_1, alike_2), (alike_solar_1, alike_solar_2), (alike_levels_1, alike_levels_2), (alike_reasons_1, alike_reasons_2)]
+         reason_stays, reason_reinstated, reason_refused_calls, reason_refusals, reason_of_aggregate, reason_numbers, reason_plant,
+         target_mixed, target_unreadable, target_between, target_jump, target_refusals, target_plant, target_declared, target_asked,
+         target_asked_in_chains]
+ALIKE = [(alike_1, alike_2), (alike_solar_1, alike_solar_2), (alike_levels_1, alike_levels_2), (alike_reasons_1, alike_reasons_2),
+         (alike_targets_1, alike_targets_2)]
 # What `rt ci` runs the program on.
 CRATE_LIST = "every_status"
 

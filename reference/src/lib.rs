@@ -5,7 +5,7 @@
 //! - [`register`]: register bytes to a [`Plant`], refusals 1 to 7 and 30, visits
 //! - [`line`]: one 40-byte line, readable or not, and a float as whole kW
 //! - [`marks`]: rate of change, triggers, errors, the mark of a unit, the pass that marks an aggregate
-//! - [`monitor`]: the state; load, interval, declare, reinstate, look, reason; the report
+//! - [`monitor`]: the state; load, interval, declare, reinstate, look, reason, target; the report
 //!
 //! Apart from the monitor:
 //!
@@ -36,6 +36,6 @@ pub mod response;
 
 pub use line::Kind;
 pub use marks::{unit_mark, Mark};
-pub use monitor::{Look, Monitor, Reason, RECORD};
+pub use monitor::{Look, Monitor, Reason, Target, RECORD};
 pub use refusal::Refusal;
 pub use register::Plant;

@@ -191,6 +191,21 @@ enum Modes {
     Mixed,
 }
 
+/// What befalls the lines of an aggregate's members in one interval.
+#[derive(Clone, Copy, PartialEq, Eq)]
+enum Blow {
+    /// Unreadable at this place of the chain.
+    At(usize),
+    /// Unreadable at the first place and at the last.
+    Ends,
+    /// Unreadable at about half of the places.
+    Half,
+    /// All unreadable.
+    All,
+    /// Readable, with targets and regulation at their bounds.
+    Bounds,
+}
+
 /// What befalls a whole interval, so that no mark of it counts in a run.
 #[derive(Clone, Copy, PartialEq, Eq)]
 enum Trouble {
@@ -258,14 +273,17 @@ impl Author {
         if self.random.chance(300) {
             self.ask_reasons();
         }
-        if self.random.chance(250) {
+        if self.random.chance(300) {
+            self.ask_targets();
+        }
+        if self.random.chance(450) {
             self.script_error();
         }
         self.script.into_bytes()
     }
 
     fn call_without_register(&mut self) {
-        match self.random.below(6) {
+        match self.random.below(8) {
             0 => {
                 let register = self.damaged_register();
                 if Plant::load(&register).is_err() {
@@ -280,7 +298,8 @@ impl Author {
             2 => self.script.declare(self.random.below(3) as u32, self.random.pick(&LEVELS)),
             3 => self.script.reinstate(0),
             4 => self.script.look(1),
-            _ => self.script.reason(self.random.pick(&[0, 0, 1, 2])),
+            5 => self.script.reason(self.random.pick(&[0, 0, 1, 2])),
+            _ => self.script.target(self.random.pick(&[0, 0, 1, 2])),
         }
     }
 
@@ -290,6 +309,9 @@ impl Author {
         }
         if !self.random.chance(15) {
             self.load_sound(None);
+        }
+        if self.random.chance(200) {
+            self.ask_targets();
         }
     }
 
@@ -305,15 +327,24 @@ impl Author {
                 } else {
                     self.load_sound(None);
                 }
+                if self.random.chance(400) {
+                    self.ask_targets();
+                }
             } else if self.random.chance(self.operators) {
                 self.operator_calls();
+                if self.random.chance(100) {
+                    self.ask_targets();
+                }
             } else if self.modes == Modes::Mixed && self.manual_now && self.random.chance(60) {
                 self.hand_over();
             } else {
                 self.interval();
             }
-            if self.random.chance(if spent { 250 } else { 60 }) {
+            if self.random.chance(if spent { 250 } else { 100 }) {
                 self.ask_reasons();
+            }
+            if self.random.chance(if spent { 100 } else { 25 }) {
+                self.ask_targets();
             }
         }
     }
@@ -616,6 +647,18 @@ impl Author {
             buffer.extend(bytes);
             sent.push(kept.then_some((draft.target, draft.raise, draft.lower)));
         }
+        let mut struck = false;
+        for group in sketch.groups.iter().filter(|group| group.aggregate.is_some()) {
+            let likely = match group.units.len() {
+                1 => 3,
+                2..16 => 16,
+                _ => 160,
+            };
+            if !long_run && self.random.chance(likely) {
+                self.strike(group, &sketch.units, &mut buffer[8..], &mut sent);
+                struck = true;
+            }
+        }
         // Quality 2 at an earlier place of the chain than a damaged line.
         for group in &sketch.groups {
             let damaged = group.units.iter().rposition(|&unit| sent[unit].is_none()).unwrap_or(0);
@@ -646,6 +689,17 @@ impl Author {
             };
         }
         self.script.interval(report, &buffer);
+        let jump = self.number.is_some_and(|last| number > last.saturating_add(1));
+        let missing = |group: &Group| group.aggregate.is_some() && group.units.iter().any(|&unit| sent[unit].is_none());
+        let asked = if struck {
+            700
+        } else if !accepted || jump {
+            250
+        } else if sketch.groups.iter().any(missing) || sketch.groups[0].units.len() >= 16 {
+            150
+        } else {
+            10
+        };
         if accepted {
             self.number = Some(number);
             for (unit, sent) in sketch.units.iter_mut().zip(sent) {
@@ -653,6 +707,50 @@ impl Author {
             }
         }
         self.sketch = Some(sketch);
+        if !long_run && self.random.chance(asked) {
+            self.ask_targets();
+        }
+    }
+
+    /// Damages lines of an aggregate's members, or brings fields of them to their bounds.
+    fn strike(&mut self, group: &Group, units: &[Unit], lines: &mut [u8], sent: &mut [Option<(i64, u32, u32)>]) {
+        let random = &mut self.random;
+        let last = group.units.len() - 1;
+        let blow = match random.below(10) {
+            0 => Blow::At(0),
+            1 => Blow::At(last / 2),
+            2 => Blow::At(last),
+            3 | 4 => Blow::Ends,
+            5..=7 => Blow::Half,
+            8 => Blow::All,
+            _ => Blow::Bounds,
+        };
+        // Targets of kind 3 on one side, so that they do not cancel out.
+        let (low, regulated) = (random.chance(500), random.chance(700));
+        for (place, &unit) in group.units.iter().enumerate() {
+            let line = &mut lines[40 * unit..40 * unit + 40];
+            let unreadable = match blow {
+                Blow::At(struck) => place == struck,
+                Blow::Ends => place == 0 || place == last,
+                Blow::Half => random.chance(500),
+                Blow::All => true,
+                Blow::Bounds => {
+                    let target = if units[unit].kind.is_signed() && low { -LIMIT } else { LIMIT };
+                    let regulation = if regulated { LIMIT as u32 } else { 0 };
+                    line[4..8].copy_from_slice(&(target as i32).to_le_bytes());
+                    line[12..16].copy_from_slice(&regulation.to_le_bytes());
+                    line[16..20].copy_from_slice(&regulation.to_le_bytes());
+                    sent[unit] = sent[unit].map(|_| (target, regulation, regulation));
+                    false
+                }
+            };
+            if unreadable {
+                // Its target and regulation would be kept, but for this.
+                let at = random.pick(&[0, 1, 2, 3]);
+                line[at] = random.pick(&[3, 128, 255]);
+                sent[unit] = None;
+            }
+        }
     }
 
     /// A number, and whether it is above the last.
@@ -824,6 +922,35 @@ impl Author {
         }
     }
 
+    /// The kept targets of all aggregates or of some, and often a point that is no aggregate's.
+    fn ask_targets(&mut self) {
+        let Some(sketch) = &self.sketch else {
+            self.script.target(self.random.pick(&[0, 1, 2]));
+            return;
+        };
+        let units = sketch.units.len() as u32;
+        let points = self.points();
+        let asked = self.random.pick(&[1000, 1000, 600]);
+        for point in units + 1..=points {
+            if self.random.chance(asked) {
+                self.script.target(point);
+            }
+        }
+        let random = &mut self.random;
+        if random.chance(500) {
+            let point = match random.below(10) {
+                0 => 0,
+                1 => points + 1,
+                2 => random.pick(&[256, 65_536, 0x8000_0000]) + random.within(1, i64::from(points)) as u32,
+                3 => u32::MAX,
+                4 => random_word(points),
+                5 => units,
+                _ => random.within(1, i64::from(units)) as u32,
+            };
+            self.script.target(point);
+        }
+    }
+
     fn operator_calls(&mut self) {
         let points = self.points();
         let units = self.sketch.as_ref().map_or(1, |sketch| sketch.units.len()) as u32;
@@ -885,6 +1012,9 @@ impl Author {
         if self.random.chance(400) {
             self.script.reason(point);
         }
+        if self.random.chance(100) {
+            self.script.target(point);
+        }
     }
 
     /// Levels at their bounds, one after the other; often rising, so that those below 0 meet the point undeclared.
@@ -905,26 +1035,31 @@ impl Author {
 
     /// A call that cannot be read, and a look behind it that must not answer.
     fn script_error(&mut self) {
-        match self.random.below(12) {
+        match self.random.below(21) {
             0 => return self.script.raw(&[5]),
             1 => return self.script.raw(&[5, 0, 0, 0, 4, 0, 0]),
             2 => return self.script.raw(&[1, 0, 0, 0, 20, 0, 0, 0, 1, 0, 2, 3, 4]),
-            3 => {
-                let tag = self.random.pick(&[0, 7, 7, 8, 255, 256, u32::MAX]);
-                self.script.call(tag, &[1, 0, 0, 0]);
+            3..=8 => {
+                let tag = self.random.pick(&[0, 8, 8, 8, 8, 8, 8, 9, 255, 263, u32::MAX]);
+                let length = self.random.pick(&[0, 4, 4, 4]);
+                self.script.call(tag, &[1, 0, 0, 0][..length]);
             }
-            4 => {
+            9 => {
                 let (tag, length) = self.random.pick(&[(3, 4), (3, 12), (4, 0), (4, 8), (5, 3), (5, 5)]);
                 self.script.call(tag, &vec![1; length]);
             }
-            5 => {
+            10 => {
                 let tag = self.random.pick(&[1, 2]);
                 self.script.call(tag, &[0; 8_193]);
             }
-            6 => self.script.interval(4_097, &[0; 48]),
-            7..=10 => {
+            11 => self.script.interval(4_097, &[0; 48]),
+            12..=15 => {
                 let length = self.random.pick(&[0, 1, 3, 5, 8, 12]);
                 self.script.call(6, &vec![1; length]);
+            }
+            16..=19 => {
+                let length = self.random.pick(&[0, 1, 3, 5, 8, 12]);
+                self.script.call(7, &vec![1; length]);
             }
             _ => return self.script.raw(&[5, 0, 0, 0, 255, 255, 255, 255, 1, 0, 0, 0]),
         }

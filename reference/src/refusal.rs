@@ -24,7 +24,7 @@ pub enum Refusal {
     BufferLength = 8,
     /// Mode above 1, or a nonzero spare in the interval header.
     Header = 9,
-    /// Point 0 or above n + m.
+    /// Point 0 or above n + m; of a target, the point of a unit too.
     Point = 10,
     /// Level beyond ±128,000,000, or negative for a unit whose target cannot be.
     Level = 11,

@@ -2,10 +2,10 @@
 //!
 //! The calls of a list of [`frames`](crate::frames), by tag: 1 load (register), 2 interval (u32 length of the report buffer,
 //! then the interval buffer), 3 declare (u32 point, i32 level), 4 reinstate (u32 point), 5 look (u32 point), 6 reason (u32
-//! point).
+//! point), 7 target (u32 point).
 
 use crate::frames::{self, word};
-use crate::monitor::{Look, Monitor};
+use crate::monitor::{Look, Monitor, Target};
 use crate::program::{interval_number, print_report};
 use crate::refusal::Refusal;
 use std::io::{self, Write};
@@ -16,6 +16,7 @@ pub const DECLARE: u32 = 3;
 pub const REINSTATE: u32 = 4;
 pub const LOOK: u32 = 5;
 pub const REASON: u32 = 6;
+pub const TARGET: u32 = 7;
 
 pub const MAX_REPORT: usize = 4_096;
 
@@ -28,6 +29,7 @@ pub enum Call<'a> {
     Reinstate { point: u32 },
     Look { point: u32 },
     Reason { point: u32 },
+    Target { point: u32 },
 }
 
 /// The calls of a list.
@@ -58,6 +60,7 @@ fn read_call(tag: u32, payload: &[u8]) -> Option<Call<'_>> {
         REINSTATE => Call::Reinstate { point: only_word(payload)? },
         LOOK => Call::Look { point: only_word(payload)? },
         REASON => Call::Reason { point: only_word(payload)? },
+        TARGET => Call::Target { point: only_word(payload)? },
         _ => return None,
     })
 }
@@ -93,6 +96,12 @@ pub fn run(bytes: &[u8], out: &mut impl Write) -> io::Result<()> {
             Ok(Call::Reason { point }) => match monitor.reason(point) {
                 Ok(reason) => writeln!(out, "reason accepted {reason}")?,
                 Err(refusal) => writeln!(out, "reason {refusal}")?,
+            },
+            Ok(Call::Target { point }) => match monitor.target(point) {
+                Ok(Target { target, raise, lower, kept }) => {
+                    writeln!(out, "target accepted {target} {raise} {lower} {}", u8::from(kept))?;
+                }
+                Err(refusal) => writeln!(out, "target {refusal}")?,
             },
             Err(place) => writeln!(out, "script error at byte {place}")?,
         }
@@ -157,6 +166,10 @@ impl Script {
         self.call(REASON, &point.to_le_bytes());
     }
 
+    pub fn target(&mut self, point: u32) {
+        self.call(TARGET, &point.to_le_bytes());
+    }
+
     /// Bytes so far.
     pub fn len(&self) -> usize {
         self.bytes.len()
@@ -194,11 +207,12 @@ mod tests {
         script.reinstate(0);
         script.look(0);
         script.reason(0);
+        script.target(0);
         script.load(&[]);
         assert_eq!(
             text(&script.into_bytes()),
             "interval refused 20\ndeclare refused 20\nreinstate refused 20\nlook refused 20\nreason refused 20\n\
-             load refused 1\n"
+             target refused 20\nload refused 1\n"
         );
         assert_eq!(text(&[]), "");
     }
@@ -222,8 +236,9 @@ mod tests {
         };
         for (tag, length) in [
             (0, 0),
-            (7, 4),
-            (7, 8),
+            (8, 0),
+            (8, 4),
+            (8, 8),
             (256, 4),
             (3, 4),
             (3, 9),
@@ -235,6 +250,10 @@ mod tests {
             (6, 3),
             (6, 5),
             (6, 8),
+            (7, 0),
+            (7, 3),
+            (7, 5),
+            (7, 8),
             (1, 8_193),
             (2, 8_193),
             (2, 3),
@@ -245,6 +264,7 @@ mod tests {
         assert_eq!(after(&call(2, &4_097u32.to_le_bytes())), error);
         assert!(after(&call(2, &4_096u32.to_le_bytes())).ends_with("interval refused 20\nlook refused 20\n"));
         assert!(after(&call(6, &[0; 4])).ends_with("reason refused 20\nlook refused 20\n"));
+        assert!(after(&call(7, &[0; 4])).ends_with("target refused 20\nlook refused 20\n"));
         assert!(after(&call(1, &[0; 8_192])).ends_with("load refused 2\nlook refused 20\n"));
     }
 }

@@ -2,7 +2,7 @@
 
 use conformance::monitor::Record;
 use conformance::replay::{self, Script};
-use conformance::{program, Look, Mark, Monitor, Reason};
+use conformance::{program, Look, Mark, Monitor, Reason, Target};
 
 fn register(lengths: [u8; 6], units: &[(u8, u8)], heads: &[u8]) -> Vec<u8> {
     let mut bytes = vec![units.len() as u8, heads.len() as u8];
@@ -907,6 +907,277 @@ fn reasons_printed() {
             "reinstate accepted",
             "reason refused 36",
             "reason accepted operator 0 0",
+            &format!("script error at byte {place}"),
+        ]
+    );
+}
+
+/// A member's line with this target, raise and lower.
+fn aimed(target: i32, raise: u32, lower: u32) -> [u8; 40] {
+    let mut bytes = member(100.0, 2);
+    for (at, value) in [(4, target as u32), (12, raise), (16, lower)] {
+        bytes[at..at + 4].copy_from_slice(&value.to_le_bytes());
+    }
+    bytes
+}
+
+/// The answer to a target: its values in the order in which they are printed.
+fn target(monitor: &Monitor, point: u32) -> Result<(i32, u32, u32, bool), u32> {
+    let before = monitor.clone();
+    let answer = monitor.target(point);
+    assert!(*monitor == before);
+    answer.map(|Target { target, raise, lower, kept }| (target, raise, lower, kept)).map_err(|refusal| refusal.number())
+}
+
+/// Chain 3 1 2 is point 6, chain 5 is point 7; unit 4 stands in none.
+fn two_chains() -> Vec<u8> {
+    register([2, 3, 4, 2, 3, 4], &[(1, 2), (2, 0), (3, 1), (4, 0), (2, 0)], &[3, 5])
+}
+
+/// Lines for it: -250,000 + 100,000 - 30,000 in the first chain, -2,000,000 in the second.
+fn lines_of_two_chains() -> [[u8; 40]; 5] {
+    let loner = with(with(aimed(900_000, 9, 9), 1, 0), 2, 1);
+    [aimed(100_000, 5_000, 2_000), aimed(30_000, 700, 40), aimed(-250_000, 1, 3), loner, aimed(2_000_000, 2_000_000, 0)]
+}
+
+const FIRST_CHAIN: Result<(i32, u32, u32, bool), u32> = Ok((-180_000, 5_701, 2_043, true));
+const SECOND_CHAIN: Result<(i32, u32, u32, bool), u32> = Ok((-2_000_000, 2_000_000, 0, true));
+const NOTHING_KEPT: Result<(i32, u32, u32, bool), u32> = Ok((0, 0, 0, false));
+
+#[test]
+fn target_refusals() {
+    let mut monitor = Monitor::new();
+    for point in [0, 1, 6, u32::MAX] {
+        assert_eq!(target(&monitor, point), Err(20));
+    }
+    assert_eq!(monitor.load(&[]).unwrap_err().number(), 1);
+    assert_eq!(target(&monitor, 6), Err(20));
+    assert_eq!(monitor.load(&two_chains()), Ok(4));
+    let mut report = [0; 7 * 16];
+    for number in 0..3 {
+        // Units in a chain and in none, and points outside the register.
+        for point in [0, 1, 2, 3, 4, 5, 8, 9, 256, 262, 65_542, 0x8000_0006, u32::MAX] {
+            assert_eq!(target(&monitor, point), Err(10));
+        }
+        assert!(target(&monitor, 6).is_ok() && target(&monitor, 7).is_ok());
+        monitor.interval(&buffer(number, 1, &lines_of_two_chains()), &mut report).unwrap();
+    }
+    // A register without aggregates, and the most there are.
+    monitor.load(&register([2, 3, 4, 2, 3, 4], &[(1, 0), (1, 0)], &[])).unwrap();
+    for point in 0..=3 {
+        assert_eq!(target(&monitor, point), Err(10));
+    }
+    let heads: Vec<u8> = (1..=16).collect();
+    monitor.load(&register([2, 3, 4, 2, 3, 4], &[(1, 0); 64], &heads)).unwrap();
+    for point in 0..=82 {
+        assert_eq!(target(&monitor, point), if (65..=80).contains(&point) { NOTHING_KEPT } else { Err(10) });
+    }
+}
+
+#[test]
+fn targets_of_kept_members() {
+    let mut monitor = Monitor::new();
+    monitor.load(&two_chains()).unwrap();
+    assert_eq!([target(&monitor, 6), target(&monitor, 7)], [NOTHING_KEPT; 2]);
+    let mut report = [0; 7 * 16];
+    // Unreadable units, and what is left of the first chain.
+    type Case<'a> = (&'a [usize], (i32, u32, u32, bool));
+    let cases: [Case; 9] = [
+        (&[], (-180_000, 5_701, 2_043, true)),
+        // The first place, the middle one, the last.
+        (&[3], (70_000, 5_700, 2_040, false)),
+        (&[1], (-280_000, 701, 43, false)),
+        (&[2], (-150_000, 5_001, 2_003, false)),
+        // Two of them, then all.
+        (&[3, 1], (-30_000, 700, 40, false)),
+        (&[3, 2], (100_000, 5_000, 2_000, false)),
+        (&[1, 2], (-250_000, 1, 3, false)),
+        (&[1, 2, 3], (0, 0, 0, false)),
+        // The unit in no chain is in no sum.
+        (&[4], (-180_000, 5_701, 2_043, true)),
+    ];
+    // In sequence; then each a jump.
+    for (step, start) in [(1, 10), (2, 100)] {
+        for ((unreadable, sums), number) in cases.into_iter().zip((start..).step_by(step)) {
+            let mut lines = lines_of_two_chains();
+            for &unit in unreadable {
+                lines[unit - 1][3] = 1;
+            }
+            monitor.interval(&buffer(number, 1, &lines), &mut report).unwrap();
+            assert_eq!(target(&monitor, 6), Ok(sums), "{unreadable:?}");
+            assert_eq!(target(&monitor, 7), SECOND_CHAIN);
+            // The second chain's only member.
+            lines[4][1] = 3;
+            monitor.interval(&buffer(number + 1_000, 1, &lines), &mut report).unwrap();
+            assert_eq!(target(&monitor, 6), Ok(sums), "{unreadable:?}");
+            assert_eq!(target(&monitor, 7), NOTHING_KEPT);
+            monitor.load(&two_chains()).unwrap();
+        }
+    }
+}
+
+#[test]
+fn a_target_is_that_of_the_latest_interval() {
+    let mut monitor = Monitor::new();
+    monitor.load(&register([2, 3, 4, 2, 3, 4], &[(1, 2), (2, 0)], &[1])).unwrap();
+    let mut report = [0; 48];
+    let mut sums = |number, lines: [[u8; 40]; 2]| {
+        monitor.interval(&buffer(number, 1, &lines), &mut report).unwrap();
+        let marks: Vec<u8> = report.as_chunks().0.iter().map(|bytes| Record::of(bytes).mark).collect();
+        (marks, target(&monitor, 3))
+    };
+    // Kept at once, though nothing was kept before it; then others in their place.
+    assert_eq!(sums(5, [aimed(100_000, 10, 20), aimed(100_000, 30, 40)]), (vec![1; 3], Ok((0, 40, 60, true))));
+    assert_eq!(sums(6, [aimed(100_000, 1, 2), aimed(99_999, 3, 4)]), (vec![2; 3], Ok((1, 4, 6, true))));
+    // A jump: BLANK, and kept none the less.
+    assert_eq!(sums(8, [aimed(7, 0, 0), aimed(9, 5, 0)]), (vec![1; 3], Ok((-2, 5, 0, true))));
+    // Nothing of the interval before stands in for an unreadable line.
+    assert_eq!(sums(9, [aimed(2_000_001, 1, 1), aimed(9, 6, 7)]).1, Ok((-9, 6, 7, false)));
+    assert_eq!(sums(20, [aimed(8, 1, 1), aimed(-1, 6, 7)]).1, Ok((8, 1, 1, false)));
+    // Whatever the quality, floats that are not read, conformance mode and mark.
+    let bad = with(with(aimed(50_000, 2, 3), 0, 2), 31, 0xFF);
+    assert_eq!(sums(21, [bad, with(aimed(20_000, 4, 5), 0, 1)]), (vec![1; 3], Ok((30_000, 6, 8, true))));
+    let off = |line| with(line, 1, 0);
+    assert_eq!(sums(22, [off(aimed(1_000, 2, 3)), off(bad)]), (vec![0; 3], Ok((-49_000, 4, 6, true))));
+    // All 0, and every member kept.
+    assert_eq!(sums(u32::MAX, [aimed(0, 0, 0), aimed(0, 0, 0)]).1, Ok((0, 0, 0, true)));
+}
+
+#[test]
+fn what_changes_no_target() {
+    let mut monitor = Monitor::new();
+    monitor.load(&two_chains()).unwrap();
+    let mut report = [0; 7 * 16];
+    let mut lines = lines_of_two_chains();
+    // All units at 100 MW: points 2, 3 and 6 are away from their targets.
+    for number in 1..=3 {
+        monitor.interval(&buffer(number, 0, &lines), &mut report).unwrap();
+    }
+    let stands = |monitor: &Monitor| assert_eq!([target(monitor, 6), target(monitor, 7)], [FIRST_CHAIN, SECOND_CHAIN]);
+    stands(&monitor);
+    // Refused intervals whose lines have other sums.
+    lines[0] = aimed(1, 1, 1);
+    lines[2][0] = 3;
+    lines[4][0] = 3;
+    let other = buffer(4, 0, &lines);
+    for (bytes, length) in [(&other[..], 111), (&other[..], 0), (&other[..207], 112), (&other[..8], 112)] {
+        assert_eq!(monitor.interval(bytes, &mut report[..length]).unwrap_err().number(), 8);
+        stands(&monitor);
+    }
+    for (bytes, refusal) in [
+        (buffer(4, 2, &lines), 9),
+        ([&[4, 0, 0, 0, 0, 0, 1, 0][..], &other[8..]].concat(), 9),
+        (buffer(3, 0, &lines), 21),
+        (buffer(0, 1, &lines), 21),
+    ] {
+        assert_eq!(monitor.interval(&bytes, &mut report).unwrap_err().number(), refusal);
+        stands(&monitor);
+    }
+    // Refused loads.
+    for (bytes, refusal) in [(&two_chains()[..43], 1), (&register([2, 3, 4, 2, 3, 4], &[(4, 0)], &[1]), 30)] {
+        assert_eq!(monitor.load(bytes).unwrap_err().number(), refusal);
+        stands(&monitor);
+    }
+    // Operator calls, accepted and refused, on the aggregate and on its members.
+    for (point, level) in [(6, -5), (3, -5), (2, 128_000_000)] {
+        assert_eq!(monitor.declare(point, level), Ok(()));
+        stands(&monitor);
+        assert_eq!(monitor.declare(point, level).unwrap_err().number(), 22);
+        assert!(monitor.look(point).is_ok() && monitor.reason(point).is_ok());
+        stands(&monitor);
+    }
+    for point in [6, 2] {
+        assert_eq!(monitor.reinstate(point), Ok(()));
+        assert_eq!(monitor.reinstate(point).unwrap_err().number(), 23);
+        stands(&monitor);
+    }
+    // The next interval changes both.
+    monitor.interval(&other, &mut report).unwrap();
+    assert_eq!([target(&monitor, 6), target(&monitor, 7)], [Ok((-29_999, 701, 41, false)), NOTHING_KEPT]);
+}
+
+#[test]
+fn a_load_leaves_no_target() {
+    let mut monitor = Monitor::new();
+    let mut report = [0; 7 * 16];
+    for first in [7, 3, 3] {
+        // The same bytes again; the next interval may have any number.
+        monitor.load(&two_chains()).unwrap();
+        assert_eq!([target(&monitor, 6), target(&monitor, 7)], [NOTHING_KEPT; 2]);
+        assert_eq!(monitor.interval(&buffer(9, 2, &lines_of_two_chains()), &mut report).unwrap_err().number(), 9);
+        assert_eq!([target(&monitor, 6), target(&monitor, 7)], [NOTHING_KEPT; 2]);
+        monitor.interval(&buffer(first, 1, &lines_of_two_chains()), &mut report).unwrap();
+        assert_eq!([target(&monitor, 6), target(&monitor, 7)], [FIRST_CHAIN, SECOND_CHAIN]);
+    }
+    // Another register, whose aggregates are points 3 and 4, then one whose only aggregate is point 6.
+    monitor.load(&register([2, 3, 4, 2, 3, 4], &[(1, 0), (2, 0)], &[2, 1])).unwrap();
+    assert_eq!([target(&monitor, 3), target(&monitor, 4)], [NOTHING_KEPT; 2]);
+    assert_eq!([target(&monitor, 6), target(&monitor, 7)], [Err(10); 2]);
+    let lines = [aimed(11, 1, 2), aimed(22, 3, 4)];
+    monitor.interval(&buffer(0, 1, &lines), &mut report[..64]).unwrap();
+    assert_eq!([target(&monitor, 3), target(&monitor, 4)], [Ok((-22, 3, 4, true)), Ok((11, 1, 2, true))]);
+    monitor.load(&register([2, 3, 4, 2, 3, 4], &[(1, 0); 5], &[5])).unwrap();
+    assert_eq!([target(&monitor, 3), target(&monitor, 6), target(&monitor, 7)], [Err(10), NOTHING_KEPT, Err(10)]);
+}
+
+#[test]
+fn targets_at_their_bounds() {
+    for (kind, own, sum) in
+        [(1, 2_000_000, 128_000_000), (2, 2_000_000, -128_000_000), (3, -2_000_000, -128_000_000), (3, 0, 0)]
+    {
+        let units: Vec<(u8, u8)> = (1..=64).map(|unit| (kind, if unit == 64 { 0 } else { unit + 1 })).collect();
+        let mut monitor = Monitor::new();
+        assert_eq!(monitor.load(&register([2, 3, 4, 2, 3, 4], &units, &[1])), Ok(64));
+        let mut report = [0; 65 * 16];
+        let mut lines = [aimed(own, 2_000_000, 2_000_000); 64];
+        monitor.interval(&buffer(1, 1, &lines), &mut report).unwrap();
+        assert_eq!(target(&monitor, 65), Ok((sum, 128_000_000, 128_000_000, true)));
+        // Each place unreadable in its turn.
+        for number in 2..=65 {
+            lines[number as usize - 2][2] = 255;
+            monitor.interval(&buffer(number, 1, &lines), &mut report).unwrap();
+            assert_eq!(target(&monitor, 65), Ok((sum / 64 * 63, 126_000_000, 126_000_000, false)));
+            lines[number as usize - 2][2] = 0;
+        }
+    }
+}
+
+#[test]
+fn targets_printed() {
+    let mut script = Script::new();
+    script.target(6);
+    script.load(&two_chains());
+    for point in [0, 5, 6, 7, 8] {
+        script.target(point);
+    }
+    script.interval(112, &buffer(1, 1, &lines_of_two_chains()));
+    script.target(6);
+    let mut lines = lines_of_two_chains();
+    lines[2][3] = 1;
+    script.interval(112, &buffer(2, 1, &lines));
+    for point in [6, 7, 262] {
+        script.target(point);
+    }
+    script.call(7, &[6, 0, 0, 0, 0]);
+    script.target(6);
+    let place = script.len() - 12 - 13;
+    let mut out = Vec::new();
+    replay::run(&script.into_bytes(), &mut out).unwrap();
+    let printed = String::from_utf8(out).unwrap();
+    let lines: Vec<&str> = printed.lines().filter(|line| line.starts_with(['t', 's'])).collect();
+    assert_eq!(
+        lines,
+        [
+            "target refused 20",
+            "target refused 10",
+            "target refused 10",
+            "target accepted 0 0 0 0",
+            "target accepted 0 0 0 0",
+            "target refused 10",
+            "target accepted -180000 5701 2043 1",
+            "target accepted 70000 5700 2040 0",
+            "target accepted -2000000 2000000 0 1",
+            "target refused 10",
             &format!("script error at byte {place}"),
         ]
     );

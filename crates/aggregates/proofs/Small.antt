@@ -22,7 +22,7 @@ use Rattle.aggregates.specs.declared.Sums.{Sums}
 
 -- ---- sums over members: one more, and each is at most 2,000,000 larger
 
-signed-size : (load : Bool) (a z : ℤ) → natAbs (addSigned load a z) ≤ natAbs a + natAbs z
+pub signed-size : (load : Bool) (a z : ℤ) → natAbs (addSigned load a z) ≤ natAbs a + natAbs z
 unfolding addSigned
 signed-size true a z = size-minus a z
 signed-size false a z = size-plus a z

@@ -47,7 +47,8 @@ pub struct Sums {
     pub loads: Capability,
 }
 
-fn add_signed(load: bool, sum: i64, z: i32) -> i64
+// A member's number on a sum: that of a load is subtracted.
+pub fn add_signed(load: bool, sum: i64, z: i32) -> i64
     requires { ⌜ natAbs sum < 2 ^ 60 ⌝ }
     ensures { λ r. ⌜ r ≡ addSigned load sum z ⌝ }
 {

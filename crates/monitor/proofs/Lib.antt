@@ -2,6 +2,7 @@
 pub mod Locality
 pub mod Returns
 pub mod Soundness
+pub mod Targets
 pub mod Groups
 pub mod Levels
 pub mod Runs

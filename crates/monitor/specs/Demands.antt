@@ -1,4 +1,4 @@
--- Demand 3, over every list of interval, declare, reinstate, look and reason calls, refused ones included, from a freshly accepted
+-- Demand 3, over every list of interval, declare, reinstate, look, reason and target calls, refused ones included, from a freshly accepted
 -- register on.
 use mathlib.Core.Path.{_≡_}
 use mathlib.Core.Logic.{_↔_, _⊎_}
@@ -18,7 +18,7 @@ use Rattle.intervals.specs.Monitors.{pointAt}
 use Rattle.intervals.specs.declared.Monitor.{Monitor}
 use Rattle.intervals.specs.declared.Verdict.the-variants.{Accept}
 use Rattle.operators.specs.Operators.{Operator, declare, reinstate, ask, look}
-use Rattle.monitor.specs.Calls.{Call, interval, operate, Outcome, refusal, reported, done, looked, reasoned, answer, after, run}
+use Rattle.monitor.specs.Calls.{Call, interval, operate, Outcome, refusal, reported, done, looked, reasoned, targeted, answer, after, run}
 use Rattle.monitor.specs.History.{History, begin, isDeclared, assessmentThen, verdict, extend, history, foretold}
 
 -- ==== The first half: "a group's fate is its own"
@@ -59,6 +59,7 @@ ofGroup plant g (reported report) = reported (recordsIn plant g report (total pl
 ofGroup plant g done = done
 ofGroup plant g (looked q) = looked q
 ofGroup plant g (reasoned why) = reasoned why
+ofGroup plant g (targeted t) = targeted t
 
 -- "A group's answers are those to operator calls that name one of its points, in list order"; and of each interval its refusal's
 -- number or the group's records
@@ -109,7 +110,7 @@ pub record Demand3 (plant : Plant) (m : Monitor) : Type 0 where
   -- 2. declared exactly when the rule holds of the list, and the rule's recursive form is equivalent
   pub exactly : (calls : List Call) (p : ℕ) → LooksDeclared (after m calls) p ↔ Declared plant calls p
   pub recursive : (calls : List Call) (p : ℕ) → (declaredThen plant calls p ≡ true) ↔ Declared plant calls p
-  -- 3. bridge: every acceptance, refusal number, report, look and reason is the one that the history gives
+  -- 3. bridge: every acceptance, refusal number, report, look, reason and target is the one that the history gives
   pub bridge : (calls : List Call) → run m calls ≡ outcomes (extend plant) (foretold plant) begin calls
 
 -- "Never a level that cannot be dispatched" (02, 2026-02), whoever declared the point: looks and reports show the level of its record

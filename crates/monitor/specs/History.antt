@@ -13,6 +13,7 @@ use Rattle.marks.specs.KeptLines.{nothingKept, keptFrom}
 use Rattle.marks.specs.declared.Kept.{Kept}
 use Rattle.marks.specs.declared.Assessment.{Assessment}
 use Rattle.points.specs.Points.{noRun, smallAfter, largeAfter, storedRun, reasonOf, declaredAt, reaches, statusOf, declares}
+use Rattle.targets.specs.Targets.{targetOf}
 use Rattle.points.specs.Records.{recordOf}
 use Rattle.points.specs.declared.Reason.{Reason}
 use Rattle.points.specs.declared.Reason.the-variants.{ByOperator}
@@ -23,7 +24,7 @@ use Rattle.intervals.specs.Assessments.{headerOf, numberOf, isAutomatic, ruleOf
 use Rattle.intervals.specs.Intervals.{decide, judgeInterval}
 use Rattle.intervals.specs.declared.Verdict.{Verdict}
 use Rattle.intervals.specs.declared.Verdict.the-variants.{Accept, Refuse}
-use Rattle.operators.specs.Operators.{Operator, declare, reinstate, ask, look, reason, allowedLevel}
+use Rattle.operators.specs.Operators.{Operator, declare, reinstate, ask, look, reason, target, allowedLevel, permitTarget, aggregateAt}
 use Rattle.monitor.specs.Calls.{Call, interval, operate, Outcome, refusal, reported, reply}
 
 -- whether a declaration stands, at which level and for which reason
@@ -87,7 +88,8 @@ assessmentThen plant h buffer i =
 
 -- "Declare is accepted when 10 and 11 do not apply, demand 3's rule over the calls before it finds the point not declared, and its
 -- small run is Ns or more or its large run Nl or more. Reinstate is accepted when 10 does not apply and that rule finds the point
--- declared"; and so is the call for the reason, 36 "after 10" (02, 2026-06)
+-- declared"; and so is the call for the reason, 36 "after 10" (02, 2026-06). The call for the target is accepted on an aggregate's point
+-- (02, 2026-07)
 unfoldable pub permitted : Plant → ℕ → Operator → Past → Verdict
 permitted plant i (declare level) q =
     cond (allowedLevel (isUnidirectionalAt plant i) level)
@@ -101,6 +103,7 @@ permitted plant i (declare level) q =
 permitted plant i reinstate q = cond (isDeclared (q .standing)) Accept (Refuse 23)
 permitted plant i (ask look) q = Accept
 permitted plant i (ask reason) q = cond (isDeclared (q .standing)) Accept (Refuse 36)
+permitted plant i (ask target) q = permitTarget plant i
 
 -- reinstatement "sets both runs to 0"
 abbrev pub changed : Operator → Past → Past
@@ -137,7 +140,7 @@ effect plant h (operate op p) =
       points = updated (place p) (changed op (h .points (place p))) (h .points);
     }
 
--- "Look, and any refused call, changes nothing here", and "like a look" the call for the reason
+-- "Look, and any refused call, changes nothing here", and "like a look" the calls for the reason and for the target
 abbrev pub extend : Plant → History → Call → History
 extend plant h c = decide (verdict plant h c) (λ k. h) (effect plant h c)
 
@@ -162,11 +165,13 @@ shownAs plant automatic small large (declared level why) = declaredAt level why
 abbrev pub shown : Plant → Bool → Past → Point
 shown plant automatic q = shownAs plant automatic (q .small) (q .large) (q .standing)
 
--- the outcome of a call, by the history before it
+-- the outcome of a call, by the history before it. An aggregate's target is what the lines that its units last sent add up to: no history of
+-- its own stands beside them
 abbrev pub foretold : Plant → History → Call → Outcome
 foretold plant h (interval buffer report) =
     let then = effect plant h (interval buffer report) in
     decide (verdict plant h (interval buffer report)) refusal
     (reported (records (λ i. recordOf (assessmentThen plant h buffer i) (shown plant (then .automatic) (then .points i))) (total plant)))
 foretold plant h (operate op p) =
-    decide (verdict plant h (operate op p)) refusal (reply op (shown plant (h .automatic) (h .points (place p))))
+    decide (verdict plant h (operate op p)) refusal
+    (reply op (shown plant (h .automatic) (h .points (place p))) (targetOf plant (h .kept) (aggregateAt plant (place p))))

@@ -1,25 +1,28 @@
 -- An operator call by the verdict on where it points, over plain values. Assumes nothing.
 use mathlib.Core.Path.{_≡_, refl, sym, ap, _∙_}
 use mathlib.Core.Bool.{Bool, true, false, cond, _&&_}
-use Prim.Native.Nat.{ℕ, zero, suc, _-_, _≤_, _<_}
+use Prim.Native.Nat.{ℕ, zero, suc, _+_, _-_, _≤_, _<_}
 use native.Mathlib.Omega.{arith}
 use borrow.Author.Tests.{le-leb, lt-leb, ltb-true, ltb-false}
 use lib.Dec.{leb, ltb}
 use Rattle.register.specs.declared.Plant.{Plant}
+use Rattle.targets.specs.Targets.{noTarget}
+use Rattle.targets.specs.declared.Target.{Target}
 use Rattle.points.specs.Points.{normal}
 use Rattle.points.specs.declared.Reason.the-variants.{ByOperator}
 use Rattle.intervals.specs.Plants.{total, place, named}
-use Rattle.intervals.specs.Monitors.{pointAt, soundOf}
+use Rattle.intervals.specs.Monitors.{targetAt, pointAt, soundOf}
 use Rattle.intervals.specs.declared.Monitor.{Monitor}
 use Rattle.intervals.specs.declared.Verdict.{Verdict}
 use Rattle.intervals.specs.declared.Verdict.the-variants.{Accept, Refuse}
 use Rattle.intervals.specs.declared.Stepped.{Stepped}
 use Rattle.intervals.proofs.States.{units-small, aggregates-small}
 use Rattle.intervals.proofs.Verdicts.{passed}
-use Rattle.operators.specs.Operators.{Operator, ask, look, reason, permit, permitDeclared, change, locateOf, operatorVerdict, stored}
-use Rattle.operators.specs.Operators.{operatedOf, operatedAt, lookedOf, lookedAt, reasonedOf, reasonedAt}
+use Rattle.operators.specs.Operators.{Operator, ask, look, reason, target, aggregateAt, permit, permitDeclared, change, locateOf}
+use Rattle.operators.specs.Operators.{operatorVerdict, stored, operatedOf, operatedAt, lookedOf, lookedAt, reasonedOf, reasonedAt, targetedOf, targetedAt}
 use Rattle.operators.specs.declared.Looked.{Looked}
 use Rattle.operators.specs.declared.Reasoned.{Reasoned}
+use Rattle.operators.specs.declared.Targeted.{Targeted}
 
 -- ---- where a point is
 
@@ -52,6 +55,10 @@ module _ (m : Monitor) (p : ℕ) where
   -- its kinds can be looked up
   pub located-units : locateOf m p ≡ Accept → m .plant .units ≤ 64
   located-units e = units-small m (both-pass e .0)
+
+  -- and it is a unit's, or that of one of 16 aggregates
+  pub located-below : locateOf m p ≡ Accept → p - 1 < m .plant .units + 16
+  located-below e = let b = both-pass e in omega (arith, positive p (b .1), aggregates-small m (b .0))
 
 -- ---- what a call does, by where it points
 
@@ -103,6 +110,16 @@ module _ (m : Monitor) (p : ℕ) (v : Verdict) (is : v ≡ locateOf m p) where
       let at : place p ≡ i = located m p (sym is ∙ e) .2 ∙ sym f in
       rw (judged-accepted (ask reason) i e f, at)
 
+  pub refused-target : (k : ℕ) → v ≡ Refuse k → _≡_ {A = Targeted} (record { verdict = v; target = noTarget; monitor = m }) (targetedOf m p)
+  unfolding targetedOf
+  refused-target k e = rw (judged-refused (ask target) k e, e)
+
+  pub located-target : (i : ℕ) → v ≡ Accept → i ≡ p - 1 → targetedAt m i ≡ targetedOf m p
+  unfolding targetedOf targetedAt permit
+  located-target i e f =
+      let at : place p ≡ i = located m p (sym is ∙ e) .2 ∙ sym f in
+      rw (judged-accepted (ask target) i e f, at)
+
 -- ---- at a point's record
 
 module _ (op : Operator) (m : Monitor) (i : ℕ) (v : Verdict) (is : v ≡ permit (m .plant) i op (pointAt m i)) where
@@ -123,3 +140,14 @@ module _ (m : Monitor) (i : ℕ) (v : Verdict) (is : v ≡ permitDeclared 36 (po
   pub unreasoned-at : (k : ℕ) → v ≡ Refuse k → _≡_ {A = Reasoned} (record { verdict = v; reason = ByOperator; monitor = m }) (reasonedAt m i)
   unfolding reasonedAt
   unreasoned-at k e = rw (← is, e)
+
+module _ (m : Monitor) (i : ℕ) {t : Target} where
+  pub targeted-at : m .plant .units ≤ i → t ≡ targetAt m (aggregateAt (m .plant) i)
+      → _≡_ {A = Targeted} (record { verdict = Accept; target = t; monitor = m }) (targetedAt m i)
+  unfolding targetedAt
+  targeted-at l e = rw (le-leb (m .plant .units) i l, e)
+
+  pub untargeted-at : i < m .plant .units → t ≡ noTarget
+      → _≡_ {A = Targeted} (record { verdict = Refuse 10; target = t; monitor = m }) (targetedAt m i)
+  unfolding targetedAt
+  untargeted-at l e = rw (lt-leb (m .plant .units) i l, e)

@@ -5,22 +5,25 @@ use mathlib.Core.List.{_∷_}
 use Prim.Native.Nat.{ℕ}
 use lib.Dec.{eqb}
 use Rattle.register.specs.declared.Plant.{Plant}
+use Rattle.targets.specs.Targets.{noTarget}
+use Rattle.targets.specs.declared.Target.{Target}
 use Rattle.points.specs.Points.{normal, spanOf}
 use Rattle.points.specs.declared.Reason.the-variants.{ByOperator}
 use Rattle.points.specs.declared.Point.{Point}
 use Rattle.intervals.specs.Plants.{place, named, isUnidirectionalAt}
-use Rattle.intervals.specs.Monitors.{pointAt, soundOf}
+use Rattle.intervals.specs.Monitors.{targetAt, pointAt, soundOf}
 use Rattle.intervals.specs.Intervals.{decide, verdictNumber, Answered}
 use Rattle.intervals.specs.declared.Monitor.{Monitor}
 use Rattle.intervals.specs.declared.Stepped.{Stepped}
 use Rattle.intervals.specs.declared.Verdict.{Verdict}
 use Rattle.intervals.specs.declared.Verdict.the-variants.{Accept, Refuse}
 use Rattle.intervals.proofs.Refusals.{Goes, accepts, unless, told, without}
-use Rattle.operators.specs.Operators.{Operator, declare, reinstate, ask, look, reason, allowedLevel, permit, ownRefusals, judgeOperator}
-use Rattle.operators.specs.Operators.{operatorVerdict, operatorRefusal, operatedOf, lookedOf, reasonedOf, lookValues, Looks}
-use Rattle.operators.specs.Operators.{reasonTold, spanTold, Reasons}
+use Rattle.operators.specs.Operators.{Operator, declare, reinstate, ask, look, reason, target, allowedLevel, isAggregateAt, aggregateAt}
+use Rattle.operators.specs.Operators.{permit, ownRefusals, judgeOperator, operatorVerdict, operatorRefusal, operatedOf, lookedOf, reasonedOf}
+use Rattle.operators.specs.Operators.{targetedOf, lookValues, Looks, reasonTold, spanTold, Reasons, targetTold, Targets}
 use Rattle.operators.specs.declared.Looked.{Looked}
 use Rattle.operators.specs.declared.Reasoned.{Reasoned}
+use Rattle.operators.specs.declared.Targeted.{Targeted}
 
 module _ (plant : Plant) (i : ℕ) where
   permit-goes : (op : Operator) (q : Point) → Goes (permit plant i op q) (ownRefusals plant i op q)
@@ -30,6 +33,7 @@ module _ (plant : Plant) (i : ℕ) where
   permit-goes reinstate q = unless 23 accepts (eqb (q .status) 4)
   permit-goes (ask look) q = accepts
   permit-goes (ask reason) q = unless 36 accepts (eqb (q .status) 4)
+  permit-goes (ask target) q = unless 10 accepts (isAggregateAt plant i)
 
   -- the numbers of a call's own refusals
   pub own-without : (op : Operator) (q : Point)
@@ -39,6 +43,7 @@ module _ (plant : Plant) (i : ℕ) where
   own-without reinstate q = (refl, refl)
   own-without (ask look) q = (refl, refl)
   own-without (ask reason) q = (refl, refl)
+  own-without (ask target) q = (refl, refl)
 
 pub operator-goes : (plant : Plant) (op : Operator) (p : ℕ) (q : Point)
     → Goes (judgeOperator plant op p q) ((10, not (named plant p)) ∷ ownRefusals plant (place p) op q)
@@ -58,6 +63,11 @@ span-told : (v : Verdict) (q : Point) → spanOf (decide v (λ k. ByOperator) (q
 unfolding spanTold spanOf
 span-told Accept q = refl
 span-told (Refuse k) q = refl
+
+target-told : (v : Verdict) (t : Target) → decide v (λ k. noTarget) t ≡ targetTold v t
+unfolding targetTold
+target-told Accept t = refl
+target-told (Refuse k) t = refl
 
 module _ (m : Monitor) (p : ℕ) where
   goes : (op : Operator)
@@ -93,4 +103,14 @@ module _ (m : Monitor) (p : ℕ) where
         number = rw e (goes (ask reason) .number);
         told = rw e (reason-told v (pointAt m (place p)));
         span = rw e (span-told v (pointAt m (place p)));
+      }
+
+  -- what target promises of its result
+  pub targets : (r : Targeted) → r ≡ targetedOf m p → Targets m p r
+  unfolding targetedOf operatorRefusal
+  targets r e =
+      record {
+        result = e;
+        number = rw e (goes (ask target) .number);
+        told = rw e (target-told (operatorVerdict (ask target) m p) (targetAt m (aggregateAt (m .plant) (place p))));
       }

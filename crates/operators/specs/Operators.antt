@@ -1,22 +1,24 @@
--- The operator calls (01, "Report and operator calls"; 02, 2026-06): what is permitted on a point's record, what it becomes, and what is
+-- The operator calls (01, "Report and operator calls"; 02, 2026-06 and 2026-07): what is permitted on a point's record, what it becomes, and what is
 -- answered.
 use mathlib.Core.Path.{_≡_}
 use mathlib.Core.Bool.{Bool, cond, _&&_, _||_, not}
 use mathlib.Core.List.{List, [], _∷_}
-use Prim.Native.Nat.{ℕ}
+use Prim.Native.Nat.{ℕ, _-_}
 use lib.Dec.{leb, eqb}
 use lib.IntN.{ℤ, natAbs}
 use lib.ListN.{set}
 use Rattle.trace.specs.Refusals.{Refusal, firstOf}
 use Rattle.register.specs.declared.Plant.{Plant}
 use Rattle.marks.specs.Levels.{isDispatchable}
+use Rattle.targets.specs.Targets.{noTarget}
+use Rattle.targets.specs.declared.Target.{Target}
 use Rattle.points.specs.Points.{normal, declaredAt, spanOf}
 use Rattle.points.specs.declared.Span.{Span}
 use Rattle.points.specs.declared.Reason.{Reason}
 use Rattle.points.specs.declared.Reason.the-variants.{ByOperator}
 use Rattle.points.specs.declared.Point.{Point}
 use Rattle.intervals.specs.Plants.{place, named, isUnidirectionalAt}
-use Rattle.intervals.specs.Monitors.{pointAt, soundOf}
+use Rattle.intervals.specs.Monitors.{targetAt, pointAt, soundOf}
 use Rattle.intervals.specs.Intervals.{decide, verdictNumber}
 use Rattle.intervals.specs.declared.Monitor.{Monitor}
 use Rattle.intervals.specs.declared.Verdict.{Verdict}
@@ -24,12 +26,14 @@ use Rattle.intervals.specs.declared.Verdict.the-variants.{Accept, Refuse}
 use Rattle.intervals.specs.declared.Stepped.{Stepped}
 use Rattle.operators.specs.declared.Looked.{Looked}
 use Rattle.operators.specs.declared.Reasoned.{Reasoned}
+use Rattle.operators.specs.declared.Targeted.{Targeted}
 
 -- what is asked of a point: nothing of the state changes. A later call that names a point and changes nothing is one case more here, and
 -- one in each definition by cases on questions: what permits it, its own refusals and its reply
 pub data Question : Type 0 where
   look : Question
   reason : Question
+  target : Question
 
 pub data Operator : Type 0 where
   declare : (level : ℤ) → Operator
@@ -50,12 +54,23 @@ permitDeclare unidirectional level q =
 abbrev pub permitDeclared : ℕ → Point → Verdict
 permitDeclared refusal q = cond (eqb (q .status) 4) Accept (Refuse refusal)
 
+-- 10: "the point of a unit falls under 10 here" (02, 2026-07). Which aggregate a place is that of is counted from 0
+abbrev pub isAggregateAt : Plant → ℕ → Bool
+isAggregateAt plant i = leb (plant .units) i
+
+abbrev pub permitTarget : Plant → ℕ → Verdict
+permitTarget plant i = cond (isAggregateAt plant i) Accept (Refuse 10)
+
+abbrev pub aggregateAt : Plant → ℕ → ℕ
+aggregateAt plant i = i - plant .units
+
 -- what is permitted on the record of the point at a place
 unfoldable pub permit : Plant → ℕ → Operator → Point → Verdict
 permit plant i (declare level) q = permitDeclare (isUnidirectionalAt plant i) level q
 permit plant i reinstate q = permitDeclared 23 q
 permit plant i (ask look) q = Accept
 permit plant i (ask reason) q = permitDeclared 36 q
+permit plant i (ask target) q = permitTarget plant i
 
 -- "Declare (point, level): status 4, declared at that level, runs 0. Reinstate (point): status 0, runs 0, level 0"
 unfoldable pub change : Operator → Point → Point
@@ -74,13 +89,15 @@ locateOf m p = cond (soundOf m) (cond (named (m .plant) p) Accept (Refuse 10)) (
 unfoldable pub operatorVerdict : Operator → Monitor → ℕ → Verdict
 operatorVerdict op m p = cond (soundOf m) (judgeOperator (m .plant) op p (pointAt m (place p))) (Refuse 20)
 
--- a call's own refusals, on the record of the point that it names: "the list above in rising number", here 11, "then these", here 22, 23 and 36
+-- a call's own refusals, on the record of the point that it names: "the list above in rising number", here 10 and 11, "then these", here 22, 23
+-- and 36
 unfoldable pub ownRefusals : Plant → ℕ → Operator → Point → List Refusal
 ownRefusals plant i (declare level) q =
     (11, not (allowedLevel (isUnidirectionalAt plant i) level)) ∷ (22, not (eqb (q .status) 2 || eqb (q .status) 3)) ∷ []
 ownRefusals plant i reinstate q = (23, not (eqb (q .status) 4)) ∷ []
 ownRefusals plant i (ask look) q = []
 ownRefusals plant i (ask reason) q = (36, not (eqb (q .status) 4)) ∷ []
+ownRefusals plant i (ask target) q = (10, not (isAggregateAt plant i)) ∷ []
 
 -- the number of the first refusal that applies, 0 where none does: "Order: 20, then the list above in rising number", here 10, then the
 -- call's own
@@ -100,6 +117,7 @@ stored m i q =
       started = m .started;
       last = m .last;
       kept = m .kept;
+      targets = m .targets;
       points = set (m .points) i q;
     }
 
@@ -128,6 +146,11 @@ reasonedAt m i =
     let v = permitDeclared 36 (pointAt m i) in
     record { verdict = v; reason = decide v (λ k. ByOperator) (pointAt m i .reason); monitor = m }
 
+unfoldable pub targetedAt : Monitor → ℕ → Targeted
+targetedAt m i =
+    let v = permitTarget (m .plant) i in
+    record { verdict = v; target = decide v (λ k. noTarget) (targetAt m (aggregateAt (m .plant) i)); monitor = m }
+
 abbrev pub declareOf : Monitor → ℕ → ℤ → Stepped
 declareOf m p level = operatedOf (declare level) m p
 
@@ -146,6 +169,13 @@ unfoldable pub reasonedOf : Monitor → ℕ → Reasoned
 reasonedOf m p =
     let v = operatorVerdict (ask reason) m p in
     record { verdict = v; reason = decide v (λ k. ByOperator) (pointAt m (place p) .reason); monitor = m }
+
+-- "A new call on the aggregate's point returns them" (02, 2026-07), the sums and the flag; zeros and false where it is refused. It changes
+-- nothing
+unfoldable pub targetedOf : Monitor → ℕ → Targeted
+targetedOf m p =
+    let v = operatorVerdict (ask target) m p in
+    record { verdict = v; target = decide v (λ k. noTarget) (targetAt m (aggregateAt (m .plant) (place p))); monitor = m }
 
 -- the values of a look, status, runs and level: the point's own, "zero values" where it is refused
 unfoldable pub lookValues : Verdict → Point → Point
@@ -173,3 +203,14 @@ pub record Reasons (m : Monitor) (p : ℕ) (r : Reasoned) : Type 0 where
   pub number : verdictNumber (r .verdict) ≡ operatorRefusal (ask reason) m p
   pub told : r .reason ≡ reasonTold (r .verdict) (pointAt m (place p))
   pub span : spanOf (r .reason) ≡ spanTold (r .verdict) (pointAt m (place p))
+
+-- the target that is told
+unfoldable pub targetTold : Verdict → Target → Target
+targetTold Accept t = t
+targetTold (Refuse k) t = noTarget
+
+-- what target promises
+pub record Targets (m : Monitor) (p : ℕ) (r : Targeted) : Type 0 where
+  pub result : r ≡ targetedOf m p
+  pub number : verdictNumber (r .verdict) ≡ operatorRefusal (ask target) m p
+  pub told : r .target ≡ targetTold (r .verdict) (targetAt m (aggregateAt (m .plant) (place p)))

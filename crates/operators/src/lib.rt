@@ -1,10 +1,11 @@
-// The operator calls (01, "Report and operator calls"; 02, 2026-06).
+// The operator calls (01, "Report and operator calls"; 02, 2026-06 and 2026-07).
 use intervals::Monitor;
 use intervals::Stepped;
 use intervals::Verdict;
 use points::Point;
 use points::Reason;
 use register::Plant;
+use targets::Target;
 ghost use mathlib.Core.Path.{_≡_};
 ghost use mathlib.Core.Bool.{_&&_};
 ghost use Prim.Native.Nat.{_+_, _≤_, _<_};
@@ -12,7 +13,8 @@ ghost use lib.Dec.{leb};
 ghost use Rattle.intervals.specs.Plants.{isUnidirectionalAt};
 ghost use Rattle.intervals.specs.Intervals.{Answered};
 ghost use Rattle.operators.specs.Operators.{declare, reinstate, operatorRefusal, allowedLevel, permitDeclare, permitDeclared, locateOf, stored};
-ghost use Rattle.operators.specs.Operators.{declareAt, reinstateAt, lookedAt, reasonedAt, declareOf, reinstateOf, Looks, Reasons};
+ghost use Rattle.operators.specs.Operators.{declareAt, reinstateAt, lookedAt, reasonedAt, targetedAt, declareOf, reinstateOf};
+ghost use Rattle.operators.specs.Operators.{Looks, Reasons, Targets};
 
 // What a look answers: the point's record, or zeros where it is refused. The state is the one that came in.
 pub struct Looked {
@@ -25,6 +27,13 @@ pub struct Looked {
 pub struct Reasoned {
     pub verdict: Verdict,
     pub reason: Reason,
+    pub monitor: Monitor,
+}
+
+// An aggregate's own target, or zeros where the call is refused. The state is the one that came in.
+pub struct Targeted {
+    pub verdict: Verdict,
+    pub target: Target,
     pub monitor: Monitor,
 }
 
@@ -222,6 +231,42 @@ pub fn reason(m: Monitor, point: u32) -> Reasoned
         Verdict::Refuse(_) => Reasoned {
             verdict: found,
             reason: Reason::ByOperator,
+            monitor: m,
+        },
+    }
+}
+
+// 10 once more: the point of a unit has no target of its own.
+fn target_at(m: Monitor, i: usize) -> Targeted
+    requires { ⌜ i < m .plant .units + 16 ⌝ }
+    ensures { λ r. ⌜ r ≡ targetedAt m i ⌝ }
+{
+    let plant = m.plant;
+    if i < plant.units {
+        return Targeted {
+            verdict: Verdict::Refuse(10),
+            target: targets::no_target(),
+            monitor: m,
+        };
+    }
+    Targeted {
+        verdict: Verdict::Accept,
+        target: m.targets[i - plant.units],
+        monitor: m,
+    }
+}
+
+// What is kept with the aggregate of this point: sums over its members' kept lines, and whether every member has one. A refusal, 20 or 10,
+// gives zeros. The state stays as it is.
+pub fn target(m: Monitor, point: u32) -> Targeted
+    ensures { λ r. ⌜ Targets m point r ⌝ }
+{
+    let found = locate(m, point);
+    match found {
+        Verdict::Accept => target_at(m, (point - 1) as usize),
+        Verdict::Refuse(_) => Targeted {
+            verdict: found,
+            target: targets::no_target(),
             monitor: m,
         },
     }

@@ -7,7 +7,7 @@ use native.Mathlib.Omega.{arith}
 use lib.ListN.{getD}
 use Rattle.register.specs.Chains.{chain, membersOf}
 use Rattle.register.specs.declared.Plant.{Plant}
-use Rattle.register.proofs.Chains.{chain-end, chain-out, chain-more}
+use Rattle.register.proofs.Chains.{chain-end, chain-out, chain-turn}
 use Rattle.register.proofs.Soundness.{sound-units, sound-indices, next-inside, head-inside}
 use Rattle.marks.specs.declared.Sight.{Sight}
 use Rattle.aggregates.specs.Aggregates.{noSums, addMember}
@@ -63,10 +63,7 @@ module _ {plant : Plant} {seen : List Sight} {aggregate : ℕ} where
     here = omega (arith, a .inside)
 
     left-more : left plant seen looked unit ≡ member ∷ left plant seen (looked + 1) following
-    left-more =
-        let one : 65 - looked - 1 ≡ 65 - (looked + 1) = omega arith in
-        let same : suc (unit - 1) ≡ unit = omega arith in
-        rw (chain-more (plant .next) (65 - looked) unit (omega arith) (omega arith), one, same)
+    left-more = ap (map (unitSeen seen)) (chain-turn (plant .next) 65 looked unit l (omega arith))
 
     ends-more : passFrom sums looked (member ∷ left plant seen (looked + 1) following) ≡ passOver (membersSeen plant seen aggregate)
     ends-more = ap (passFrom sums looked) (sym left-more) ∙ a .ends

@@ -5,7 +5,7 @@ use mathlib.Core.List.{List, []}
 use Prim.Native.Nat.{ℕ}
 use Rattle.intervals.specs.Assessments.{headerOf, numberOf}
 use Rattle.intervals.specs.declared.Monitor.{Monitor}
-use Rattle.monitor.specs.Calls.{Outcome, refusal, reported, done, looked, reasoned}
+use Rattle.monitor.specs.Calls.{Outcome, refusal, reported, done, looked, reasoned, targeted}
 use Rattle.text.specs.Lines.{linesOf, refusedOf}
 use Rattle.program.specs.Steps.{Outcome as Step}
 
@@ -17,6 +17,7 @@ programText buffer (reported report) = linesOf (numberOf (headerOf buffer)) repo
 programText buffer done = []
 programText buffer (looked q) = []
 programText buffer (reasoned why) = []
+programText buffer (targeted t) = []
 
 -- whether the run goes on after an outcome: a refusal "ends the run", and no other outcome does
 abbrev pub goesOn : Outcome → Bool
@@ -25,6 +26,7 @@ goesOn (reported report) = true
 goesOn done = true
 goesOn (looked q) = true
 goesOn (reasoned why) = true
+goesOn (targeted t) = true
 
 -- a step that comes to a next state, after a buffer with this outcome
 abbrev pub shownBy : Monitor → List ℕ → Outcome → Step

@@ -31,6 +31,14 @@ module _ (next : List ℕ) where
       let b : suc i - 1 ≡ i = omega arith in
       rw (a, b)
 
+  -- the same for a loop that counts its turns up to so many
+  pub chain-turn : (most turns unit : ℕ) → turns < most → 0 < unit
+      → chain next (most - turns) unit ≡ unit ∷ chain next (most - (turns + 1)) (getD next (unit - 1) 0)
+  chain-turn most turns unit l h =
+      let one : most - turns - 1 ≡ most - (turns + 1) = omega arith in
+      let same : suc (unit - 1) ≡ unit = omega arith in
+      rw (chain-more (most - turns) unit (omega arith) h, one, same)
+
   pub length-chain : (steps unit : ℕ) → length (chain next steps unit) ≤ steps
   unfolding chain
   length-chain zero unit = zero-le

@@ -8,6 +8,7 @@ use borrow.Author.Tests.{eq-eqb, ne-eqb}
 use lib.IntN.{ℤ}
 use lib.ListN.{length}
 use Rattle.register.specs.Registers.{answerNumber, answerVisits}
+use Rattle.targets.specs.declared.Target.{Target}
 use Rattle.points.specs.Points.{spanOf}
 use Rattle.points.specs.declared.Span.{Span}
 use Rattle.points.specs.declared.Reason.{Reason}
@@ -20,19 +21,20 @@ use Rattle.intervals.specs.declared.Verdict.the-variants.{Accept, Refuse}
 use Rattle.intervals.proofs.Refusals.{interval-told}
 use Rattle.intervals.proofs.States.{units-small, aggregates-small}
 use Rattle.intervals.proofs.Verdicts.{ready, report-size}
-use Rattle.operators.specs.Operators.{Operator, declare, reinstate, ask, look, reason, operatedOf, lookedOf, reasonedOf}
+use Rattle.operators.specs.Operators.{Operator, declare, reinstate, ask, look, reason, target, operatedOf, lookedOf, reasonedOf, targetedOf}
 use Rattle.operators.specs.declared.Looked.{Looked}
 use Rattle.operators.specs.declared.Reasoned.{Reasoned}
+use Rattle.operators.specs.declared.Targeted.{Targeted}
 use Rattle.monitor.specs.Loading.{loadOf}
 use Rattle.monitor.specs.Calls.{interval, operate, next}
 use Rattle.monitor.specs.declared.Loaded.{Loaded}
 use Rattle.text.specs.Numbers.{ascii}
-use Rattle.text.specs.Lines.{line, numberedOf, spannedOf}
+use Rattle.text.specs.Lines.{line, numberedOf, spannedOf, targetLineOf}
 use Rattle.text.specs.Puts.{Put}
 use Rattle.program.specs.Steps.{Outcome, Steps}
 use Rattle.program.proofs.Turns.{turned, refused-number, accepted-last}
 use Rattle.script.specs.Texts.{answeredBy, loadText, acceptedText, intervalText, declareText, reinstateText, lookText}
-use Rattle.script.specs.Texts.{lookLine, reasonWords, reasonLine, reasonText, operatorText, callText}
+use Rattle.script.specs.Texts.{lookLine, reasonWords, reasonLine, reasonText, bitOf, targetLine, targetText, operatorText, callText}
 use Rattle.script.specs.Steps.{madeLoad, madeCall}
 
 -- ---- the text, by the number
@@ -50,6 +52,11 @@ module _ {out : List ℕ} {at next : ℕ} {after : List ℕ} where
   pub put-reason : (why : Reason) (span : Span) → span ≡ spanOf why → Put out at (spannedOf (reasonWords why) (span .first) (span .last)) next after
       → Put out at (reasonLine why) next after
   put-reason why span is put = rw (← is) put
+
+  -- a target's line, from its values as the call hands them on
+  pub put-target : (t : Target) {sum : ℤ} {kept : ℕ} → sum ≡ t .target → kept ≡ bitOf (t .complete)
+      → Put out at (targetLineOf (ascii "target accepted") sum (t .raise) (t .lower) kept) next after → Put out at (targetLine t) next after
+  put-target t e f put = rw (← e, ← f) put
 
 -- ---- an accepted interval
 
@@ -151,6 +158,19 @@ module _ (m : Monitor) (out after : List ℕ) (size : ℕ) where
         → Made (madeCall m (operate (ask reason) p)) (r .monitor)
     unfolding reasonText
     reason-refused e put = reasoned (rw (sym is, sym told) (put-refused number _ (ascii "reason refused") e put))
+
+  module _ (p : ℕ) (r : Targeted) (is : r ≡ targetedOf m p) (number : ℕ) (told : number ≡ verdictNumber (r .verdict)) where
+    targeted : Put out 0 (operatorText (ask target) m p) size after → Made (madeCall m (operate (ask target) p)) (r .monitor)
+    targeted put = turned (madeCall m (operate (ask target) p)) (r .monitor) true (ap (λ (l : Targeted). l .monitor) is) refl put
+
+    pub target-accepted : number ≡ 0 → Put out 0 (targetLine (r .target)) size after → Made (madeCall m (operate (ask target) p)) (r .monitor)
+    unfolding targetText
+    target-accepted e put = targeted (rw (sym is, sym told) (put-accepted number _ (ascii "target refused") e put))
+
+    pub target-refused : (number ≡ 0 → ⊥) → Put out 0 (numberedOf (ascii "target refused") number) size after
+        → Made (madeCall m (operate (ask target) p)) (r .monitor)
+    unfolding targetText
+    target-refused e put = targeted (rw (sym is, sym told) (put-refused number _ (ascii "target refused") e put))
 
 -- ---- what the report buffer held does not matter
 

@@ -9,7 +9,7 @@ use lib.ListN.{length, drop, replicate}
 use Rattle.wire.specs.Fields.{wordAt, wholeAt}
 use Rattle.frames.specs.Frames.{isFrame}
 use Rattle.intervals.specs.declared.Monitor.{Monitor}
-use Rattle.operators.specs.Operators.{declare, reinstate, ask, look, reason}
+use Rattle.operators.specs.Operators.{declare, reinstate, ask, look, reason, target}
 use Rattle.monitor.specs.Calls.{interval, operate}
 use Rattle.text.proofs.Puts.{nothing}
 use Rattle.program.specs.Steps.{Steps}
@@ -86,9 +86,14 @@ module _ (tag point : ℕ) where
       unfolding pointItem
       point-reason g = rw (ne-eqb tag 4 e, ne-eqb tag 5 f, eq-eqb tag 6 g)
 
-      pub point-unread : (tag ≡ 6 → ⊥) → pointItem tag point ≡ unreadable
-      unfolding pointItem
-      point-unread g = rw (ne-eqb tag 4 e, ne-eqb tag 5 f, ne-eqb tag 6 g)
+      module _ (g : tag ≡ 6 → ⊥) where
+        pub point-target : tag ≡ 7 → pointItem tag point ≡ calls (operate (ask target) point)
+        unfolding pointItem
+        point-target h = rw (ne-eqb tag 4 e, ne-eqb tag 5 f, ne-eqb tag 6 g, eq-eqb tag 7 h)
+
+        pub point-unread : (tag ≡ 7 → ⊥) → pointItem tag point ≡ unreadable
+        unfolding pointItem
+        point-unread h = rw (ne-eqb tag 4 e, ne-eqb tag 5 f, ne-eqb tag 6 g, ne-eqb tag 7 h)
 
 -- ---- the whole
 

@@ -5,6 +5,7 @@
 --   4 reinstate   u32 point
 --   5 look        u32 point
 --   6 reason      u32 point
+--   7 target      u32 point
 use mathlib.Core.Bool.{Bool, cond, _&&_}
 use mathlib.Core.List.{List}
 use Prim.Native.Nat.{ℕ}
@@ -12,7 +13,7 @@ use lib.Dec.{leb, eqb}
 use lib.ListN.{length, drop, replicate}
 use Rattle.wire.specs.Fields.{wordAt, wholeAt}
 use Rattle.frames.specs.Frames.{isFrame}
-use Rattle.operators.specs.Operators.{declare, reinstate, ask, look, reason}
+use Rattle.operators.specs.Operators.{declare, reinstate, ask, look, reason, target}
 use Rattle.monitor.specs.Calls.{Call, interval, operate}
 
 -- a load, a call of demand 3's lists, or bytes that are neither
@@ -41,7 +42,8 @@ declareItem payload = when (eqb (length payload) 8) (calls (operate (declare (wh
 unfoldable pub pointItem : ℕ → ℕ → Item
 pointItem tag point =
     cond (eqb tag 4) (calls (operate reinstate point))
-    (cond (eqb tag 5) (calls (operate (ask look) point)) (when (eqb tag 6) (calls (operate (ask reason) point))))
+    (cond (eqb tag 5) (calls (operate (ask look) point))
+    (cond (eqb tag 6) (calls (operate (ask reason) point)) (when (eqb tag 7) (calls (operate (ask target) point)))))
 
 unfoldable pub operatorItem : ℕ → List ℕ → Item
 operatorItem tag payload =

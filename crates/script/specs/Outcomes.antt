@@ -4,11 +4,11 @@ use mathlib.Core.List.{List, [], _∷_, _++_}
 use Prim.Native.Nat.{ℕ}
 use Rattle.intervals.specs.Assessments.{headerOf, numberOf}
 use Rattle.intervals.specs.declared.Monitor.{Monitor}
-use Rattle.operators.specs.Operators.{Operator, declare, reinstate, ask, look, reason}
-use Rattle.monitor.specs.Calls.{Call, interval, operate, Outcome, refusal, reported, done, looked, reasoned, next}
+use Rattle.operators.specs.Operators.{Operator, declare, reinstate, ask, look, reason, target}
+use Rattle.monitor.specs.Calls.{Call, interval, operate, Outcome, refusal, reported, done, looked, reasoned, targeted, next}
 use Rattle.text.specs.Numbers.{ascii, decimalOf}
 use Rattle.text.specs.Lines.{line, numberedOf}
-use Rattle.script.specs.Texts.{acceptedText, lookLine, reasonLine, callText}
+use Rattle.script.specs.Texts.{acceptedText, lookLine, reasonLine, targetLine, callText}
 
 -- an operator call's name in the text
 abbrev pub nameOf : Operator → List ℕ
@@ -16,6 +16,7 @@ nameOf (declare level) = ascii "declare"
 nameOf reinstate = ascii "reinstate"
 nameOf (ask look) = ascii "look"
 nameOf (ask reason) = ascii "reason"
+nameOf (ask target) = ascii "target"
 
 -- by the call and its outcome; nothing for an interval's outcome that is an operator call's, and the other way about
 abbrev pub outcomeText : Call → Outcome → List ℕ
@@ -24,11 +25,13 @@ outcomeText (interval buffer report) (reported bytes) = acceptedText (numberOf (
 outcomeText (interval buffer report) done = []
 outcomeText (interval buffer report) (looked q) = []
 outcomeText (interval buffer report) (reasoned why) = []
+outcomeText (interval buffer report) (targeted t) = []
 outcomeText (operate op p) (refusal k) = line (nameOf op ∷ ascii "refused" ∷ decimalOf k ∷ [])
 outcomeText (operate op p) (reported bytes) = []
 outcomeText (operate op p) done = line (nameOf op ∷ ascii "accepted" ∷ [])
 outcomeText (operate op p) (looked q) = lookLine q
 outcomeText (operate op p) (reasoned why) = reasonLine why
+outcomeText (operate op p) (targeted t) = targetLine t
 
 -- the texts of a list's calls, one after the other, each call made in the state that the call before it returned
 abbrev pub texts : Monitor → List Call → List ℕ

@@ -1,11 +1,12 @@
 -- What is printed for each call: its name, `accepted` and what it answers, or `refused` and the number in 01.
-use mathlib.Core.Bool.{cond}
+use mathlib.Core.Bool.{Bool, cond}
 use mathlib.Core.List.{List, [], _∷_, _++_}
 use Prim.Native.Nat.{ℕ}
 use lib.Dec.{eqb}
 use lib.ListN.{length}
 use Rattle.register.specs.Registers.{answerNumber, answerVisits}
 use Rattle.register.specs.declared.Answer.{Answer}
+use Rattle.targets.specs.declared.Target.{Target}
 use Rattle.points.specs.Points.{spanOf}
 use Rattle.points.specs.declared.Reason.{Reason}
 use Rattle.points.specs.declared.Reason.the-variants.{ByOperator, BySmallRun, ByLargeRun}
@@ -13,10 +14,10 @@ use Rattle.points.specs.declared.Point.{Point}
 use Rattle.intervals.specs.Assessments.{headerOf, numberOf}
 use Rattle.intervals.specs.Intervals.{verdictNumber, intervalOf, reportOf}
 use Rattle.intervals.specs.declared.Monitor.{Monitor}
-use Rattle.operators.specs.Operators.{Operator, declare, reinstate, ask, look, reason, operatedOf, lookedOf, reasonedOf}
+use Rattle.operators.specs.Operators.{Operator, declare, reinstate, ask, look, reason, target, operatedOf, lookedOf, reasonedOf, targetedOf}
 use Rattle.monitor.specs.Calls.{Call, interval, operate}
 use Rattle.text.specs.Numbers.{ascii}
-use Rattle.text.specs.Lines.{line, linesOf, numberedOf, spannedOf, standingOf}
+use Rattle.text.specs.Lines.{line, linesOf, numberedOf, spannedOf, standingOf, targetLineOf}
 
 -- by the number in 01, which is 0 where the call is accepted
 abbrev pub answeredBy : ℕ → List ℕ → List ℕ → List ℕ
@@ -59,11 +60,22 @@ reasonLine why = spannedOf (reasonWords why) (spanOf why .first) (spanOf why .la
 unfoldable pub reasonText : ℕ → Reason → List ℕ
 reasonText number why = answeredBy number (reasonLine why) (ascii "reason refused")
 
+-- `target accepted TARGET RAISE LOWER KEPT`, KEPT being 1 or 0
+unfoldable pub bitOf : Bool → ℕ
+bitOf flag = cond flag 1 0
+
+abbrev pub targetLine : Target → List ℕ
+targetLine t = targetLineOf (ascii "target accepted") (t .target) (t .raise) (t .lower) (bitOf (t .complete))
+
+unfoldable pub targetText : ℕ → Target → List ℕ
+targetText number t = answeredBy number (targetLine t) (ascii "target refused")
+
 abbrev pub operatorText : Operator → Monitor → ℕ → List ℕ
 operatorText (declare level) m p = declareText (verdictNumber (operatedOf (declare level) m p .verdict))
 operatorText reinstate m p = reinstateText (verdictNumber (operatedOf reinstate m p .verdict))
 operatorText (ask look) m p = lookText (verdictNumber (lookedOf m p .verdict)) (lookedOf m p .point)
 operatorText (ask reason) m p = reasonText (verdictNumber (reasonedOf m p .verdict)) (reasonedOf m p .reason)
+operatorText (ask target) m p = targetText (verdictNumber (targetedOf m p .verdict)) (targetedOf m p .target)
 
 -- the text of a call made in a state
 abbrev pub callText : Monitor → Call → List ℕ

@@ -1,15 +1,17 @@
 // The calls: each is made in a state, and its answer put into a buffer.
+ghost use mathlib.Core.Path.{_≡_};
 ghost use Prim.Native.Nat.{_+_, _≤_};
 ghost use lib.ListN.{length};
-ghost use Rattle.operators.specs.Operators.{declare, reinstate, ask, look, reason};
+ghost use Rattle.operators.specs.Operators.{declare, reinstate, ask, look, reason, target};
 ghost use Rattle.monitor.specs.Calls.{interval, operate};
 ghost use Rattle.text.specs.Puts.{Put};
 ghost use Rattle.program.specs.Steps.{Steps};
-ghost use Rattle.script.specs.Texts.{answeredBy, acceptedText, reasonLine};
+ghost use Rattle.script.specs.Texts.{answeredBy, acceptedText, reasonLine, bitOf, targetLine};
 ghost use Rattle.script.specs.Steps.{madeLoad, madeCall};
 use monitor::Monitor;
 use points::Reason;
 use program::Turn;
+use targets::Target;
 
 // A line for an accepted call, or words and the refusal's number.
 fn put_answer(out: &mut [u8], number: u32, accepted: &[u8], refused: &[u8]) -> usize
@@ -189,5 +191,50 @@ pub(crate) fn reason(m: Monitor, point: u32, out: &mut [u8; 8192]) -> Turn
         monitor,
         more: true,
         length: text::put_numbered(out, 0, b"reason refused", number as u64),
+    }
+}
+
+// A flag as the text has it.
+fn bit(flag: bool) -> u8
+    ensures { λ r. ⌜ r ≡ bitOf flag ⌝ }
+{
+    if flag { 1 } else { 0 }
+}
+
+// The line of an aggregate's target.
+fn put_target(out: &mut [u8], t: Target) -> usize
+    requires { ⌜ 8192 ≤ length (now out) ⌝ }
+    ensures { λ r. ⌜ Put (now (out .entry)) 0 (targetLine t) r (now (out .exit)) ⌝ }
+{
+    text::put_target(
+        out,
+        0,
+        b"target accepted",
+        t.target,
+        t.raise,
+        t.lower,
+        bit(t.complete),
+    )
+}
+
+pub(crate) fn target(m: Monitor, point: u32, out: &mut [u8; 8192]) -> Turn
+    ensures { λ r. ⌜ Steps (madeCall m (operate (ask target) point)) r (now (out .entry)) (now (out .exit)) ⌝ }
+{
+    let targeted = monitor::target(m, point);
+    let verdict = targeted.verdict;
+    let number = verdict.number();
+    let target = targeted.target;
+    let monitor = targeted.monitor;
+    if number == 0 {
+        return Turn {
+            monitor,
+            more: true,
+            length: put_target(out, target),
+        };
+    }
+    Turn {
+        monitor,
+        more: true,
+        length: text::put_numbered(out, 0, b"target refused", number as u64),
     }
 }

@@ -59,6 +59,9 @@ fn point_call(m: Monitor, at: u64, tag: u32, point: u32, out: &mut [u8; 8192]) -
     if tag == 6 {
         return calls::reason(m, point, out);
     }
+    if tag == 7 {
+        return calls::target(m, point, out);
+    }
     unreadable(m, at, out)
 }
 

@@ -16,7 +16,7 @@ use Rattle.trace.proofs.Sweeps.{records-at-most}
 use Rattle.wire.specs.Fields.{wordAt, wholeAt}
 use Rattle.wire.proofs.Laws.{four}
 use Rattle.text.specs.Numbers.{decimalOf, wholeOf}
-use Rattle.text.specs.Lines.{lineOf, lineAt, linesOf, numberedOf, spannedOf, standingOf, dayValuesOf}
+use Rattle.text.specs.Lines.{lineOf, lineAt, linesOf, numberedOf, spannedOf, standingOf, targetLineOf, dayValuesOf}
 use Rattle.text.specs.Puts.{Room, Put, PutWithin, hasRoom, longestLine, longestLines}
 use Rattle.text.proofs.Numbers.{length-decimal}
 
@@ -91,6 +91,12 @@ pub standing-longest : (words : List ℕ) (status small large : ℕ) (level : �
 standing-longest words status small large level a b c d =
     simp length-append
     (omega (arith, byte-longest status a, byte-longest small b, byte-longest large c, whole-longest level d))
+
+pub target-longest : (words : List ℕ) (target : ℤ) (raise lower kept : ℕ) → SFits w32 target → raise < 2 ^ 32 → lower < 2 ^ 32 → kept < 256
+    → length (targetLineOf words target raise lower kept) ≤ length words + 39
+target-longest words target raise lower kept a b c d =
+    simp length-append
+    (omega (arith, whole-longest target a, word-longest raise b, word-longest lower c, byte-longest kept d))
 
 pub day-longest : (response : ℤ) (target : ℕ) (flag : List ℕ) (under over : ℕ) → SFits w64 response → target < 2 ^ 32 → under < 2 ^ 32 → over < 2 ^ 32
     → length (dayValuesOf response target flag under over) ≤ length flag + 54

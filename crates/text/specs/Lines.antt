@@ -58,6 +58,11 @@ abbrev pub standingOf : List ℕ → ℕ → ℕ → ℕ → ℤ → List ℕ
 standingOf words status small large level =
     line (words ∷ decimalOf status ∷ decimalOf small ∷ decimalOf large ∷ wholeOf level ∷ [])
 
+-- words, and what is kept with an aggregate: a signed target, regulation up and down, and a flag
+abbrev pub targetLineOf : List ℕ → ℤ → ℕ → ℕ → ℕ → List ℕ
+targetLineOf words target raise lower kept =
+    line (words ∷ wholeOf target ∷ decimalOf raise ∷ decimalOf lower ∷ decimalOf kept ∷ [])
+
 -- fields with one space between, and no end
 abbrev pub behind : List (List ℕ) → List ℕ
 behind [] = []

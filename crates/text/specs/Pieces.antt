@@ -34,6 +34,9 @@ runsPiece status small large = field (decimalOf status) ++ (field (decimalOf sma
 abbrev pub levelPiece : ℤ → List ℕ
 levelPiece level = field (wholeOf level) ++ (10 ∷ [])
 
+abbrev pub regulationPiece : ℕ → ℕ → ℕ → List ℕ
+regulationPiece raise lower kept = field (decimalOf raise) ++ (field (decimalOf lower) ++ numberPiece kept)
+
 abbrev pub sumsPiece : ℤ → ℕ → List ℕ
 sumsPiece response target = wholeOf response ++ field (decimalOf target)
 

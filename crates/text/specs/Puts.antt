@@ -32,7 +32,7 @@ abbrev pub longestWhole : ℕ
 longestWhole = 11
 
 -- behind the words: a space, the number and the end of the line; or two spaces, twice ten digits and the end; or four spaces, three
--- bytes, a whole number and the end
+-- bytes, a whole number and the end; or four spaces, a whole number, twice ten digits, a byte and the end
 abbrev pub longestNumbered : List ℕ → ℕ
 longestNumbered words = length words + 22
 
@@ -41,6 +41,9 @@ longestSpanned words = length words + 23
 
 abbrev pub longestStanding : List ℕ → ℕ
 longestStanding words = length words + 25
+
+abbrev pub longestTarget : List ℕ → ℕ
+longestTarget words = length words + 39
 
 -- round the words: a sign and 19 digits, three times ten digits and four spaces
 abbrev pub longestDay : List ℕ → ℕ

@@ -7,9 +7,9 @@ ghost use Prim.Native.Nat.{_+_, _*_};
 ghost use lib.Dec.{leb};
 ghost use lib.ListN.{length};
 ghost use Rattle.text.specs.Numbers.{decimalOf, wholeOf};
-ghost use Rattle.text.specs.Lines.{linesOf, numberedOf, spannedOf, standingOf, dayValuesOf};
-ghost use Rattle.text.specs.Puts.{PutWithin, longestNumber, longestWhole, longestNumbered, longestSpanned, longestStanding, longestDay};
-ghost use Rattle.text.specs.Puts.{longestLine, longestLines};
+ghost use Rattle.text.specs.Lines.{linesOf, numberedOf, spannedOf, standingOf, targetLineOf, dayValuesOf};
+ghost use Rattle.text.specs.Puts.{PutWithin, longestNumber, longestWhole, longestNumbered, longestSpanned, longestStanding};
+ghost use Rattle.text.specs.Puts.{longestTarget, longestDay, longestLine, longestLines};
 
 // The longest number (u64), signed number (i32), and line of a point.
 const LONGEST_NUMBER: usize = 20;
@@ -19,12 +19,14 @@ const LONGEST_WHOLE: usize = 11;
 const LONGEST_LINE: usize = 83;
 
 // The most that stands behind the words of a line: a space, a number and the end; two spaces, the numbers of two intervals and the
-// end; or four spaces, a point's values and the end.
+// end; or four spaces and the end, with a point's values or an aggregate's.
 const BEHIND_NUMBERED: usize = 22;
 
 const BEHIND_SPANNED: usize = 23;
 
 const BEHIND_STANDING: usize = 25;
+
+const BEHIND_TARGET: usize = 39;
 
 // The most that stands round the words of a day's values.
 const ROUND_FLAG: usize = 54;
@@ -114,6 +116,25 @@ pub fn put_standing(
 {
     if has_room(out.len(), at, words.len() + BEHIND_STANDING) {
         return pieces::put_standing(out, at, words, status, small, large, level);
+    }
+    at
+}
+
+// A line of words, and what is kept with an aggregate: its target, its regulation up and down, and whether every member has a line.
+pub fn put_target(
+    out: &mut [u8],
+    at: usize,
+    words: &[u8],
+    target: i32,
+    raise: u32,
+    lower: u32,
+    kept: u8,
+) -> usize
+    ensures { λ r. ⌜ PutWithin (longestTarget (now (words .entry)))
+        (now (out .entry)) at (targetLineOf (now (words .entry)) target raise lower kept) r (now (out .exit)) ⌝ }
+{
+    if has_room(out.len(), at, words.len() + BEHIND_TARGET) {
+        return pieces::put_target(out, at, words, target, raise, lower, kept);
     }
     at
 }

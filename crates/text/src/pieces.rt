@@ -4,9 +4,9 @@ ghost use Prim.Native.Nat.{_+_, _%_, _≤_, _<_};
 ghost use lib.ListN.{length, getD};
 ghost use Rattle.wire.specs.Fields.{wordAt, wholeAt};
 ghost use Rattle.text.specs.Numbers.{decimalOf, wholeOf};
-ghost use Rattle.text.specs.Lines.{lineOf, linesOf, numberedOf, spannedOf, standingOf, dayValuesOf};
+ghost use Rattle.text.specs.Lines.{lineOf, linesOf, numberedOf, spannedOf, standingOf, targetLineOf, dayValuesOf};
 ghost use Rattle.text.specs.Puts.{Room, Put};
-ghost use Rattle.text.specs.Pieces.{field, statusPiece, amountsPiece, numberPiece, runsPiece, levelPiece, sumsPiece, countsPiece};
+ghost use Rattle.text.specs.Pieces.{field, statusPiece, amountsPiece, numberPiece, runsPiece, levelPiece, regulationPiece, sumsPiece, countsPiece};
 
 // ---- words and numbers
 
@@ -232,6 +232,33 @@ pub(crate) fn put_standing(
     let runs = put_bytes(out, at, words);
     let last = put_runs(out, runs, status, small, large);
     put_level(out, last, level)
+}
+
+// The regulation up and down, a flag, and the end of the line.
+fn put_regulation(out: &mut [u8], at: usize, raise: u32, lower: u32, kept: u8) -> usize
+    requires { ⌜ Room (now out) at (regulationPiece raise lower kept) ⌝ }
+    ensures { λ r. ⌜ Put (now (out .entry)) at (regulationPiece raise lower kept) r (now (out .exit)) ⌝ }
+{
+    let second = put_field(out, at, raise as u64);
+    let third = put_field(out, second, lower as u64);
+    put_last_number(out, third, kept as u64)
+}
+
+pub(crate) fn put_target(
+    out: &mut [u8],
+    at: usize,
+    words: &[u8],
+    target: i32,
+    raise: u32,
+    lower: u32,
+    kept: u8,
+) -> usize
+    requires { ⌜ Room (now out) at (targetLineOf (now words) target raise lower kept) ⌝ }
+    ensures { λ r. ⌜ Put (now (out .entry)) at (targetLineOf (now (words .entry)) target raise lower kept) r (now (out .exit)) ⌝ }
+{
+    let second = put_bytes(out, at, words);
+    let third = put_whole_field(out, second, target);
+    put_regulation(out, third, raise, lower, kept)
 }
 
 // ---- the values of a day of wholesale demand response

@@ -10,7 +10,7 @@ use conformance::random_ledgers::{Sort, SORTS};
 use conformance::replay::{self, Call, Calls, MAX_REPORT};
 use conformance::response::{self, Assessment, Flag};
 use conformance::{passes, random_calls, random_days, random_ledgers, random_passes};
-use conformance::{Look, Mark, Monitor, Plant, Reason, Refusal};
+use conformance::{Look, Mark, Monitor, Plant, Reason, Refusal, Target};
 use std::collections::{BTreeMap, BTreeSet};
 use std::process::ExitCode;
 
@@ -18,6 +18,8 @@ const MARKS: [&str; 6] = ["OFF", "BLANK", "CLEAR", "DOUBT", "SMALL", "LARGE"];
 const STATUSES: [&str; 5] = ["Normal", "Off-Target", "Not-Responding", "NC-Pending", "Non-Conforming"];
 const REASONS: [&str; 3] = ["small", "large", "operator"];
 const SEMI_SCHEDULED: &str = "semi-scheduled";
+/// The tag after the last that a call has.
+const FIRST_UNKNOWN: u32 = replay::TARGET + 1;
 /// Bounds of an operator's level and their neighbours.
 const LEVELS: [i32; 9] = [i32::MIN, -128_000_001, -128_000_000, -1, 0, 1, 128_000_000, 128_000_001, i32::MAX];
 /// Least count of each thing for the check to pass.
@@ -86,6 +88,70 @@ const NO_REASONS: [&str; 14] = [
     "36, declared before the latest load",
     "36, a run at its length, manual mode",
     "36, a run at its length, automatic mode",
+];
+/// What is asked of the kept targets.
+const TARGETS: [&str; 47] = [
+    "0 0 0 0 after a load",
+    "0 0 0 0 after a load, other sums before it",
+    "KEPT 1",
+    "KEPT 0 after an interval",
+    "KEPT 1, TARGET below 0",
+    "KEPT 1, TARGET 0",
+    "KEPT 1, TARGET above 0",
+    "KEPT 1, RAISE 0",
+    "KEPT 1, RAISE above 0",
+    "KEPT 1, LOWER 0",
+    "KEPT 1, LOWER above 0",
+    "KEPT 0, TARGET below 0",
+    "KEPT 0, TARGET above 0",
+    "KEPT 0, RAISE above 0",
+    "KEPT 0, LOWER above 0",
+    "KEPT 0, two or more sums not 0 from beyond the first unreadable",
+    "the only member unreadable",
+    "the first of two or more alone unreadable",
+    "a middle one alone unreadable",
+    "the last of two or more alone unreadable",
+    "two or more unreadable, another kept",
+    "two or more unreadable, another kept between them",
+    "all of two or more unreadable",
+    "a sum beyond 2000000",
+    "chain of 1",
+    "chain of 16 or more, KEPT 1",
+    "chain of 16 or more, KEPT 0",
+    "a member kept with quality 1",
+    "a member kept with quality 2",
+    "a member kept with conformance mode 0",
+    "all members kept with conformance mode 0",
+    "a generating unit and a load kept",
+    "a bidirectional unit and a load kept",
+    "a generating unit and a bidirectional unit kept",
+    "loads alone kept",
+    "a bidirectional unit kept with a target below 0",
+    "after a jump, KEPT 1",
+    "after a jump, KEPT 0",
+    "a member kept again after it was unreadable",
+    "a member unreadable after it was kept",
+    "after a refused interval",
+    "after a refused interval of other sums",
+    "after a refused load",
+    "after a declaration by an operator in the group",
+    "after a reinstatement in the group",
+    "after a declaration by the interval in the group",
+    "asked again after the same interval",
+];
+/// What is asked of the targets refused.
+const NO_TARGETS: [&str; 11] = [
+    "20, point 0",
+    "20, another point",
+    "10, unit in no chain",
+    "10, unit in a chain",
+    "10, the last unit, aggregates above",
+    "10, the last unit, no aggregates",
+    "10, point 0",
+    "10, the point after the last",
+    "10, low byte of a point",
+    "10, point 4294967295",
+    "10, another point",
 ];
 /// Seeds of the random days.
 const DAY_SEEDS: std::ops::RangeInclusive<u64> = 1..=2_000;
@@ -1255,6 +1321,143 @@ fn meet_later(met: &mut BTreeSet<&str>, plant: &Plant, since: &[Marked], later: 
     }
 }
 
+/// What came before a target is asked for.
+#[derive(Default)]
+struct Asking {
+    /// The targets before the latest accepted load, by aggregate.
+    before_load: Vec<Target>,
+    /// Lines of the interval before the latest accepted one, if a load did not come between.
+    earlier: Vec<Option<Line>>,
+    jump: bool,
+    /// Points that the latest accepted interval declared.
+    by_interval: BTreeSet<usize>,
+    since: Since,
+}
+
+/// What came since the latest accepted interval, or load.
+#[derive(Default)]
+struct Since {
+    refused_interval: bool,
+    /// Its lines were whole.
+    refused_lines: bool,
+    refused_load: bool,
+    /// Points declared by an operator, and reinstated.
+    declared: BTreeSet<usize>,
+    reinstated: BTreeSet<usize>,
+    asked: BTreeSet<u32>,
+}
+
+impl Asking {
+    fn after_load(before: &Monitor) -> Self {
+        let points = before.plant().map_or(0..0, |plant| plant.units()..plant.points());
+        Self { before_load: points.flat_map(|point| before.target(point as u32 + 1)).collect(), ..Self::default() }
+    }
+
+    /// Counts an accepted target. `lines`: those of the latest accepted interval, where readable; None after a load.
+    fn count(&mut self, counts: &mut Counts, plant: &Plant, point: u32, found: Target, lines: Option<&[Option<Line>]>) {
+        let mut add = |reached: bool, what: &str| {
+            if reached {
+                counts.add(format!("target, {what}"));
+            }
+        };
+        let Since { refused_interval, refused_lines, refused_load, declared, reinstated, asked } = &self.since;
+        let aggregate = point as usize - 1 - plant.units();
+        let members: Vec<usize> = plant.members(aggregate).iter().map(|&unit| usize::from(unit)).collect();
+        let in_group = |points: &BTreeSet<usize>| {
+            points.contains(&(point as usize - 1)) || members.iter().any(|unit| points.contains(unit))
+        };
+        add(*refused_interval, "after a refused interval");
+        add(*refused_load, "after a refused load");
+        add(asked.contains(&point), "asked again after the same interval");
+        let Some(lines) = lines else {
+            let before = self.before_load.get(aggregate);
+            add(true, "0 0 0 0 after a load");
+            add(before.is_some_and(|&before| before != found), "0 0 0 0 after a load, other sums before it");
+            self.since.asked.insert(point);
+            return;
+        };
+        add(*refused_lines, "after a refused interval of other sums");
+        add(in_group(declared), "after a declaration by an operator in the group");
+        add(in_group(reinstated), "after a reinstatement in the group");
+        add(in_group(&self.by_interval), "after a declaration by the interval in the group");
+
+        let Target { target, raise, lower, kept } = found;
+        let kept_name = if kept { "KEPT 1" } else { "KEPT 0" };
+        let sign = |target: i32| match target {
+            ..0 => "TARGET below 0",
+            0 => "TARGET 0",
+            _ => "TARGET above 0",
+        };
+        add(true, if kept { "KEPT 1" } else { "KEPT 0 after an interval" });
+        add(true, &format!("{kept_name}, {}", sign(target)));
+        add(true, &format!("{kept_name}, RAISE {}", if raise == 0 { "0" } else { "above 0" }));
+        add(true, &format!("{kept_name}, LOWER {}", if lower == 0 { "0" } else { "above 0" }));
+        add(self.jump, &format!("after a jump, {kept_name}"));
+        add(members.len() >= 16, &format!("chain of 16 or more, {kept_name}"));
+        add(members.len() == 1, "chain of 1");
+        let greatest = target.unsigned_abs().max(raise).max(lower);
+        add(greatest > 2_000_000, "a sum beyond 2000000");
+
+        let unreadable: Vec<usize> = (0..members.len()).filter(|&place| lines[members[place]].is_none()).collect();
+        let last = members.len() - 1;
+        match unreadable[..] {
+            [] => {}
+            [_] if last == 0 => add(true, "the only member unreadable"),
+            [0] => add(true, "the first of two or more alone unreadable"),
+            [place] if place == last => add(true, "the last of two or more alone unreadable"),
+            [_] => add(true, "a middle one alone unreadable"),
+            _ if unreadable.len() == members.len() => add(true, "all of two or more unreadable"),
+            [first, .., other] => {
+                add(true, "two or more unreadable, another kept");
+                add(other - first >= unreadable.len(), "two or more unreadable, another kept between them");
+            }
+        }
+        if let Some(&first) = unreadable.first() {
+            let beyond = || members[first..].iter().flat_map(|&unit| &lines[unit]);
+            let sums = [
+                beyond().map(|line| i64::from(line.target)).sum::<i64>(),
+                beyond().map(|line| i64::from(line.raise)).sum(),
+                beyond().map(|line| i64::from(line.lower)).sum(),
+            ];
+            let several = sums.iter().filter(|&&sum| sum != 0).count() >= 2;
+            add(several, "KEPT 0, two or more sums not 0 from beyond the first unreadable");
+        }
+
+        let readable: Vec<(Kind, &Line)> =
+            members.iter().flat_map(|&unit| lines[unit].as_ref().map(|line| (plant.kind(unit), line))).collect();
+        let any = |wanted: &dyn Fn(Kind, &Line) -> bool| readable.iter().any(|(kind, line)| wanted(*kind, line));
+        add(any(&|_, line| line.quality == Quality::Substituted), "a member kept with quality 1");
+        add(any(&|_, line| line.quality == Quality::Bad), "a member kept with quality 2");
+        add(any(&|_, line| line.mode == 0), "a member kept with conformance mode 0");
+        add(kept && !any(&|_, line| line.mode != 0), "all members kept with conformance mode 0");
+        let [generating, load, bidirectional] =
+            [Kind::Generating, Kind::Load, Kind::Bidirectional].map(|wanted| any(&|kind, _| kind == wanted));
+        add(generating && load, "a generating unit and a load kept");
+        add(bidirectional && load, "a bidirectional unit and a load kept");
+        add(generating && bidirectional, "a generating unit and a bidirectional unit kept");
+        add(load && !generating && !bidirectional, "loads alone kept");
+        add(any(&|_, line| line.target < 0), "a bidirectional unit kept with a target below 0");
+
+        let changed = |before: bool| {
+            let earlier = |unit: usize| self.earlier.get(unit).is_some_and(|line| line.is_some() == before);
+            !self.earlier.is_empty() && members.iter().any(|&unit| earlier(unit) && lines[unit].is_some() != before)
+        };
+        add(changed(false), "a member kept again after it was unreadable");
+        add(changed(true), "a member unreadable after it was kept");
+        self.since.asked.insert(point);
+    }
+}
+
+/// Counts a target at the point of a unit.
+fn count_unit_target(counts: &mut Counts, plant: &Plant, point: u32) {
+    let mut add = |what: &str| counts.add(format!("target refused 10, {what}"));
+    add(if is_member(plant, point as usize - 1) { "unit in a chain" } else { "unit in no chain" });
+    if point as usize == plant.units() {
+        let none = plant.aggregates() == 0;
+        add(if none { "the last unit, no aggregates" } else { "the last unit, aggregates above" });
+    }
+}
+
 /// The sort of a point outside the register.
 fn outside(plant: &Plant, point: u32) -> &'static str {
     let points = plant.points() as u32;
@@ -1285,13 +1488,16 @@ fn main() -> ExitCode {
         let mut last_number = None;
         let mut kept = Vec::new();
         let mut stories: Vec<Story> = Vec::new();
+        let mut asking = Asking::default();
         for call in Calls::new(&list) {
             match call {
                 Ok(Call::Load(register)) => {
+                    let before = monitor.clone();
                     let answer = monitor.load(register);
                     counts.answer("load", &answer);
                     match answer {
                         Ok(_) => {
+                            asking = Asking::after_load(&before);
                             class = monitor.plant().map_or(Vec::new(), classes);
                             last_number = None;
                             kept = vec![None; class.len()];
@@ -1307,6 +1513,7 @@ fn main() -> ExitCode {
                     }
                     if answer.is_err() {
                         stories.iter_mut().for_each(|story| story.refused_load = true);
+                        asking.since.refused_load = true;
                     }
                 }
                 Ok(Call::Interval { report: length, buffer }) => {
@@ -1314,11 +1521,16 @@ fn main() -> ExitCode {
                     let before: Vec<Look> = (1..=class.len() as u32).flat_map(|point| monitor.look(point)).collect();
                     let answer = monitor.interval(buffer, report);
                     counts.answer("interval", &answer);
-                    if answer.is_err() {
+                    if let Err(refusal) = answer {
+                        asking.since.refused_interval = true;
+                        asking.since.refused_lines |= matches!(refusal, Refusal::Header | Refusal::NotRising);
                         continue;
                     }
                     let number = conformance::program::interval_number(buffer);
-                    if last_number.is_some_and(|last: u32| last + 1 != number) {
+                    let jump = last_number.is_some_and(|last: u32| last + 1 != number);
+                    let earlier = if last_number.is_some() { kept.clone() } else { Vec::new() };
+                    asking = Asking { earlier, jump, ..Asking::default() };
+                    if jump {
                         counts.add("interval jump".into());
                         kept.fill(None);
                     }
@@ -1354,6 +1566,7 @@ fn main() -> ExitCode {
                             counts.add(format!("{class} declared by an interval"));
                             count_declared(&mut counts, plant, point, lines);
                             stories[point].declare();
+                            asking.by_interval.insert(point);
                         }
                         if class == SEMI_SCHEDULED {
                             count_semi_scheduled(&mut counts, &lines[point], kept[point], before[point], record);
@@ -1376,6 +1589,7 @@ fn main() -> ExitCode {
                     if answer.is_ok() {
                         counts.add(format!("{} declared by an operator", class[point as usize - 1]));
                         stories[point as usize - 1].declare();
+                        asking.since.declared.insert(point as usize - 1);
                     }
                     match (monitor.plant(), before) {
                         (Some(plant), Ok(before)) => {
@@ -1392,6 +1606,7 @@ fn main() -> ExitCode {
                     if let (Ok(()), Ok(reason)) = (answer, reason) {
                         counts.add(format!("{} reinstated", class[point as usize - 1]));
                         stories[point as usize - 1].reinstate(reason);
+                        asking.since.reinstated.insert(point as usize - 1);
                     }
                 }
                 Ok(Call::Look { point }) => counts.answer("look", &monitor.look(point)),
@@ -1413,10 +1628,34 @@ fn main() -> ExitCode {
                         Err(_) => story.count_none(&mut counts, plant, look),
                     }
                 }
+                Ok(Call::Target { point }) => {
+                    let answer = monitor.target(point);
+                    counts.answer("target", &answer);
+                    match (monitor.plant(), answer) {
+                        (None, _) => {
+                            let which = if point == 0 { "point 0" } else { "another point" };
+                            counts.add(format!("target refused 20, {which}"));
+                        }
+                        (Some(plant), Ok(found)) => {
+                            let lines = last_number.map(|_| &kept[..]);
+                            asking.count(&mut counts, plant, point, found, lines);
+                        }
+                        (Some(plant), Err(_)) if monitor.look(point).is_ok() => {
+                            count_unit_target(&mut counts, plant, point);
+                        }
+                        (Some(plant), Err(_)) => {
+                            counts.add(format!("target refused 10, {}", outside(plant, point)));
+                        }
+                    }
+                }
                 Err(place) => {
                     counts.add("script error".into());
-                    if list.get(place..place + HEAD).is_some_and(|head| head[..4] == replay::REASON.to_le_bytes()) {
-                        counts.add("script error, reason with another payload".into());
+                    let tag = list.get(place..place + HEAD).and_then(|head| head.first_chunk());
+                    match tag.map(|&tag| u32::from_le_bytes(tag)) {
+                        Some(replay::REASON) => counts.add("script error, reason with another payload".into()),
+                        Some(replay::TARGET) => counts.add("script error, target with another payload".into()),
+                        Some(FIRST_UNKNOWN) => counts.add("script error, the first unknown tag".into()),
+                        _ => {}
                     }
                 }
             }
@@ -1438,6 +1677,7 @@ fn main() -> ExitCode {
         ("reinstate", &[10, 20, 23]),
         ("look", &[10, 20]),
         ("reason", &[10, 20, 36]),
+        ("target", &[10, 20]),
     ] {
         wanted.push(format!("{call} accepted"));
         wanted.extend(refusals.iter().map(|number| format!("{call} refused {number}")));
@@ -1472,6 +1712,10 @@ fn main() -> ExitCode {
     wanted.extend(ONE_RUN_REASONS.iter().map(|what| format!("reason {what}")));
     wanted.extend(NO_REASONS.iter().map(|what| format!("reason refused {what}")));
     wanted.push("script error, reason with another payload".into());
+    wanted.extend(TARGETS.iter().map(|what| format!("target, {what}")));
+    wanted.extend(NO_TARGETS.iter().map(|what| format!("target refused {what}")));
+    wanted.push("script error, target with another payload".into());
+    wanted.push("script error, the first unknown tag".into());
     for what in [
         "CLEAR past the trigger, good",
         "CLEAR past the trigger, substituted",

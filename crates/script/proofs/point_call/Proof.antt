@@ -1,6 +1,6 @@
 -- `script::point_call` meets its contract. Assumes nothing.
 use borrow.Author.Needs.{needs}
-use Rattle.script.proofs.Readings.{point-reinstate, point-look, point-reason, point-unread}
+use Rattle.script.proofs.Readings.{point-reinstate, point-look, point-reason, point-target, point-unread}
 use Rattle.script.proofs.point_call.Statement.{statement}
 use Rattle.script.proofs.point_call.Tie as tie
 
@@ -26,15 +26,35 @@ returns-3 c =
     let t = c .before .before in
     rw (point-reason _ _ (t .before .before .if1 .left) (t .before .if2 .left) (t .if3 .taken)) (c .reason .ensures)
 
-unreadable-requires : tie.Need-unreadable-requires
-unreadable-requires c κs = search needs
+target-requires : tie.Need-target-requires
+target-requires c κs = search needs
 
 returns-4 : tie.Need-returns-4
 returns-4 c =
     let t = c .before .before in
-    rw (point-unread _ _ (t .before .before .if1 .left) (t .before .if2 .left) (t .if3 .left)) (c .unreadable .ensures)
+    let u = t .before in
+    rw (point-target _ _ (u .before .before .if1 .left) (u .before .if2 .left) (u .if3 .left) (t .if4 .taken)) (c .target .ensures)
+
+unreadable-requires : tie.Need-unreadable-requires
+unreadable-requires c κs = search needs
+
+returns-5 : tie.Need-returns-5
+returns-5 c =
+    let t = c .before .before in
+    let u = t .before in
+    rw (point-unread _ _ (u .before .before .if1 .left) (u .before .if2 .left) (u .if3 .left) (t .if4 .left)) (c .unreadable .ensures)
 
 pub point-call-spec : {M : Type 1} → statement M
 point-call-spec =
     tie.close
-    (tie.spec reinstate-requires returns look-requires returns-2 reason-requires returns-3 unreadable-requires returns-4)
+    (tie.spec
+    reinstate-requires
+    returns
+    look-requires
+    returns-2
+    reason-requires
+    returns-3
+    target-requires
+    returns-4
+    unreadable-requires
+    returns-5)
