@@ -44,20 +44,20 @@ unfolding targetFrom addMember
 from-more t v vs = go (v .line .have) refl
   where
     go : (b : Bool) → v .line .have ≡ b → targetFrom t (v ∷ vs) ≡ targetFrom (addMember t (v .load) (v .line)) vs
-    go true e = rw e
+    go true e = rw (e, and-true (t .complete))
     go false e = rw (e, and-false (t .complete))
 
 -- what a member that has a line makes of the sums, and one that lacks it
 module _ (t : Target) (load : Bool) (k : Kept) where
   pub member-kept : {sum : ℤ} → sum ≡ addSigned load (t .target) (k .target) → k .have ≡ true
       → _≡_ {A = Target}
-      (record { target = sum; raise = t .raise + k .raise; lower = t .lower + k .lower; complete = t .complete })
+      (record { target = sum; raise = t .raise + k .raise; lower = t .lower + k .lower; complete = t .complete && k .have })
       (addMember t load k)
   unfolding addMember
   member-kept e have = rw (e, have)
 
   pub member-lacking : {same : ℤ} → same ≡ t .target → k .have ≡ false
-      → _≡_ {A = Target} (record { target = same; raise = t .raise; lower = t .lower; complete = false }) (addMember t load k)
+      → _≡_ {A = Target} (record { target = same; raise = t .raise; lower = t .lower; complete = t .complete && k .have }) (addMember t load k)
   unfolding addMember
   member-lacking e have = rw (e, have)
 
@@ -76,9 +76,9 @@ member-more {n} t load k s small = go (k .have)
           target = addSigned load (t .target) (k .target);
           raise = t .raise + k .raise;
           lower = t .lower + k .lower;
-          complete = t .complete;
+          complete = t .complete && k .have;
         })
-        (record { target = t .target; raise = t .raise; lower = t .lower; complete = false }))
+        (record { target = t .target; raise = t .raise; lower = t .lower; complete = t .complete && k .have }))
     go true = omega (arith, signed-size load (t .target) (k .target))
     go false = omega arith
 

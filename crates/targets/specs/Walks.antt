@@ -1,7 +1,7 @@
 -- How the code comes to an aggregate's target, one member at a time, and how large its numbers are. Nobody has to believe this file:
 -- `proofs/Walks.antt` shows that it gives what Targets says.
 use mathlib.Core.Path.{_≡_}
-use mathlib.Core.Bool.{Bool, true, false, cond}
+use mathlib.Core.Bool.{Bool, true, cond, _&&_}
 use mathlib.Core.List.{List}
 use Prim.Native.Nat.{ℕ, _+_, _≤_, _<_}
 use lib.IntN.{pos, natAbs}
@@ -20,14 +20,15 @@ noMembers = record { target = pos 0; raise = 0; lower = 0; complete = true }
 -- one more
 unfoldable pub addMember : Target → Bool → Kept → Target
 addMember t load k =
+    let complete = t .complete && k .have in
     cond (k .have)
     (record {
       target = addSigned load (t .target) (k .target);
       raise = t .raise + k .raise;
       lower = t .lower + k .lower;
-      complete = t .complete;
+      complete = complete;
     })
-    (record { target = t .target; raise = t .raise; lower = t .lower; complete = false })
+    (record { target = t .target; raise = t .raise; lower = t .lower; complete = complete })
 
 pub record SmallTarget (n : ℕ) (t : Target) : Type 0 where
   pub target : natAbs (t .target) ≤ n

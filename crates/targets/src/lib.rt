@@ -47,20 +47,22 @@ impl Target {
         requires { ⌜ SmallTarget 130000000 self × SmallKept k ⌝ }
         ensures { λ r. ⌜ r ≡ addMember self load k ⌝ }
     {
-        if k.have {
+        let have = k.have;
+        let complete = self.complete & have;
+        if have {
             let sum = aggregates::add_signed(load, signed::widened(self.target), k.target);
             return Target {
                 target: signed::narrowed(sum),
                 raise: self.raise + k.raise,
                 lower: self.lower + k.lower,
-                complete: self.complete,
+                complete,
             };
         }
         Target {
             target: self.target,
             raise: self.raise,
             lower: self.lower,
-            complete: false,
+            complete,
         }
     }
 }

@@ -16,12 +16,12 @@ use Rattle.targets.proofs.Target.plus.Statement.{statement}
 use Rattle.targets.proofs.Target.plus.Tie as tie
 
 abbrev start : tie.After-widened → tie.Start
-start c = c .before .before .before
+start c = c .before .before .before .before
 
 abbrev widened : tie.After-add-signed → tie.After-widened
 widened c = c .before .before
 
-abbrev narrowed : tie.After-struct-known4 → tie.After-narrowed
+abbrev narrowed : tie.After-struct-known5 → tie.After-narrowed
 narrowed c = c .before .before .before .before
 
 -- the signed numbers, as locals hold them
@@ -52,11 +52,11 @@ narrowed-requires c κs =
     rw (result64 (c .add-signed), sum-is c)
     (omega (arith, s .pre .0 .target, s .pre .1 .target, signed-size (s .args .load) (s .args .self .target) (s .args .k .target)))
 
-add-t8 : tie.Need-add-t8
-add-t8 c = search needs
+add-t10 : tie.Need-add-t10
+add-t10 c = search needs
 
-add-t9 : tie.Need-add-t9
-add-t9 c = search needs
+add-t11 : tie.Need-add-t11
+add-t11 c = search needs
 
 returns : tie.Need-returns
 returns c =
@@ -67,7 +67,7 @@ returns c =
 
 returns-2 : tie.Need-returns-2
 returns-2 c =
-    let s = c .before .before in
+    let s = c .before .before .before in
     member-lacking (s .args .self) (s .args .load) (s .args .k) (target-is s) (c .before .if1 .left)
 
 pub plus-spec : {M : Type 1} → statement M
@@ -77,7 +77,7 @@ plus-spec =
     widened-requires
     add-signed-requires
     narrowed-requires
-    add-t8
-    add-t9
+    add-t10
+    add-t11
     returns
     returns-2)
