@@ -16,7 +16,7 @@ use Rattle.telemetry.specs.declared.Line.the-variants.{Readable, Unreadable}
 use Rattle.telemetry.specs.declared.Reading.{Reading}
 use Rattle.telemetry.specs.declared.Reading.the-variants.{Good, Substituted, Missing}
 use Rattle.trace.proofs.Tests.{and-l, and-r}
-use Rattle.telemetry.proofs.Floats.{kilowatts-size}
+use Rattle.floats.proofs.Floats.{kilowatts-size}
 use Rattle.telemetry.proofs.Clauses.{target-small, availability-small, raise-small, lower-small}
 use Rattle.marks.specs.Triggers.{directionOf, rateOf, capabilityOf, unitCapability}
 use Rattle.marks.specs.KeptLines.{nothingKept, keptFrom, keptBounded}

@@ -3,7 +3,7 @@ use mathlib.Core.Bool.{Bool, true, false, cond, not, _&&_}
 use Prim.Native.Nat.{ℕ}
 use lib.Dec.{eqb}
 use lib.IntN.{ℤ, pos}
-use Rattle.telemetry.specs.Kilowatts.{kilowattsOf}
+use Rattle.floats.specs.Kilowatts.{kilowattsOf}
 use Rattle.telemetry.specs.Lines.{isSemiScheduled, powerOf}
 use Rattle.telemetry.specs.Ranges.{isUnidirectional}
 use Rattle.telemetry.specs.declared.Fields.{Fields}

@@ -3,7 +3,7 @@ use mathlib.Core.Path.{_≡_}
 use mathlib.Core.Bool.{true, false}
 use Prim.Native.Nat.{ℕ}
 use lib.IntN.{ℤ, pos, negsuc}
-use Rattle.telemetry.specs.Kilowatts.{kilowattsOf}
+use Rattle.floats.specs.Kilowatts.{kilowattsOf}
 use Rattle.telemetry.specs.Table.{BitsRows}
 use Rattle.telemetry.specs.declared.Fields.{Fields}
 use Rattle.telemetry.specs.declared.Line.the-variants.{Readable}

@@ -3,7 +3,7 @@ use mathlib.Core.Bool.{Bool, cond}
 use Prim.Native.Nat.{ℕ, _+_, _*_, min, max}
 use lib.IntN.{ℤ, natAbs}
 use lib.Signed.{ltZ}
-use Rattle.telemetry.specs.Kilowatts.{kilowattsOf}
+use Rattle.floats.specs.Kilowatts.{kilowattsOf}
 use Rattle.telemetry.specs.declared.Readings.{Readings}
 use Rattle.telemetry.specs.declared.Fields.{Fields}
 use Rattle.marks.specs.declared.Direction.{Direction}

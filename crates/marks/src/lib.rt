@@ -5,7 +5,7 @@ ghost use mathlib.Core.Path.{_≡_};
 ghost use mathlib.Core.Bool.{true};
 ghost use Prim.Native.Nat.{_*_, _^_, _<_, _≤_, min, max};
 ghost use lib.IntN.{natAbs};
-ghost use Rattle.telemetry.specs.Kilowatts.{kilowattsOf};
+ghost use Rattle.floats.specs.Kilowatts.{kilowattsOf};
 ghost use Rattle.marks.specs.Triggers.{directionOf, opposite, rateOf, capabilityOf, unitCapability, addCapability, triggerOf};
 ghost use Rattle.marks.specs.Errors.{overOf, underOf, errorOf, exceeds};
 ghost use Rattle.marks.specs.KeptLines.{nothingKept, keptBounded, keptFrom};
@@ -109,7 +109,7 @@ impl Capability {
 fn allowed_rate(scada: f32, bid: u32) -> u64
     ensures { λ r. ⌜ r ≡ min (natAbs (kilowattsOf scada)) bid ⌝ }
 {
-    let size = signed::size(signed::widened(telemetry::kilowatts(scada)));
+    let size = signed::size(signed::widened(floats::kilowatts(scada)));
     lesser(size, bid as u64)
 }
 
@@ -310,8 +310,8 @@ pub fn power_in(reading: Reading) -> i32
     ensures { λ r. ⌜ r ≡ kilowattsIn reading ⌝ }
 {
     match reading {
-        Reading::Good(x) => telemetry::kilowatts(x),
-        Reading::Substituted(x) => telemetry::kilowatts(x),
+        Reading::Good(x) => floats::kilowatts(x),
+        Reading::Substituted(x) => floats::kilowatts(x),
         Reading::Missing => 0,
     }
 }

@@ -30,9 +30,9 @@ fn put_rates(out: &mut [u8], at: usize, f: Fields) -> usize {
     let readings = f.readings;
     let mut next = put_number(out, at, f.bid_up);
     next = put_number(out, next, f.bid_down);
-    next = put_whole(out, next, telemetry::kilowatts(readings.power));
-    next = put_whole(out, next, telemetry::kilowatts(readings.ramp_up));
-    put_whole(out, next, telemetry::kilowatts(readings.ramp_down))
+    next = put_whole(out, next, floats::kilowatts(readings.power));
+    next = put_whole(out, next, floats::kilowatts(readings.ramp_up));
+    put_whole(out, next, floats::kilowatts(readings.ramp_down))
 }
 
 // Quality, conformance mode and cap flag.

@@ -3,7 +3,7 @@ use borrow.Author.Needs.{needs}
 use mathlib.Core.Path.{_≡_}
 use mir.Syntax.{w64}
 use mir.Val.{toZ, ofZ}
-use Rattle.telemetry.specs.Kilowatts.{kilowattsOf}
+use Rattle.floats.specs.Kilowatts.{kilowattsOf}
 use Rattle.signed.proofs.Results.{result32, result64}
 use Rattle.marks.proofs.allowed_rate.Statement.{statement}
 use Rattle.marks.proofs.allowed_rate.Tie as tie
