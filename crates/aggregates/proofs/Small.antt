@@ -8,10 +8,11 @@ use Rattle.telemetry.specs.Lines.{powerOf}
 use Rattle.telemetry.specs.declared.Fields.{Fields}
 use Rattle.telemetry.specs.declared.Line.{Line}
 use Rattle.telemetry.specs.declared.Line.the-variants.{Readable, Unreadable}
-use Rattle.marks.specs.Triggers.{opposite, addCapability}
+use Rattle.triggers.specs.Triggers.{opposite, addCapability}
 use Rattle.marks.specs.Assessments.{kilowattsIn}
-use Rattle.marks.specs.Bounds.{SmallFields, SmallLine, SmallKept, SmallSight, SmallCapability, SmallBasis}
-use Rattle.marks.specs.declared.Capability.{Capability}
+use Rattle.triggers.specs.Bounds.{SmallCapability}
+use Rattle.marks.specs.Bounds.{SmallFields, SmallLine, SmallKept, SmallSight, SmallBasis}
+use Rattle.triggers.specs.declared.Capability.{Capability}
 use Rattle.marks.specs.declared.Kept.{Kept}
 use Rattle.marks.specs.declared.Sight.{Sight}
 use Rattle.marks.proofs.Small.{power-small, capability-small, rate-small}

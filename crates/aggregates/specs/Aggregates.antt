@@ -8,10 +8,10 @@ use Rattle.telemetry.specs.Lines.{powerOf}
 use Rattle.telemetry.specs.declared.Fields.{Fields}
 use Rattle.telemetry.specs.declared.Line.{Line}
 use Rattle.telemetry.specs.declared.Line.the-variants.{Readable, Unreadable}
-use Rattle.marks.specs.Triggers.{directionOf, opposite, rateOf, unitCapability, addCapability}
+use Rattle.triggers.specs.Triggers.{directionOf, opposite, rateOf, unitCapability, addCapability}
 use Rattle.marks.specs.Assessments.{kilowattsIn, isDoubtful, isKnown, judged, without}
-use Rattle.marks.specs.declared.Direction.{Direction}
-use Rattle.marks.specs.declared.Capability.{Capability}
+use Rattle.triggers.specs.declared.Direction.{Direction}
+use Rattle.triggers.specs.declared.Capability.{Capability}
 use Rattle.marks.specs.declared.Kept.{Kept}
 use Rattle.marks.specs.declared.Sight.{Sight}
 use Rattle.marks.specs.declared.Mark.the-variants.{Off, Blank}

@@ -1,7 +1,7 @@
 -- How large sums over members are: each member adds at most 2,000,000, and a walk along a chain takes at most 65 steps.
 use Prim.Native.Nat.{ℕ, _≤_}
 use lib.IntN.{natAbs}
-use Rattle.marks.specs.Bounds.{SmallCapability}
+use Rattle.triggers.specs.Bounds.{SmallCapability}
 use Rattle.aggregates.specs.declared.Present.{Present}
 use Rattle.aggregates.specs.declared.KeptSums.{KeptSums}
 use Rattle.aggregates.specs.declared.Sums.{Sums}

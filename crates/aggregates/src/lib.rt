@@ -9,12 +9,12 @@ ghost use Rattle.aggregates.specs.Aggregates.{addMember, noSums, aggrega
 ghost use Rattle.aggregates.specs.Sizes.{SmallPresent, SmallKeptSums, SmallSums};
 use marks::Assessment;
 use marks::Basis;
-use marks::Capability;
 use marks::Kept;
 use marks::Mark;
 use marks::Sight;
 use telemetry::Fields;
 use telemetry::Line;
+use triggers::Capability;
 
 // Of the members so far: whether every line is readable, some conformance mode is not 0, every member can be assessed, and some
 // value is substituted.
@@ -146,7 +146,7 @@ impl Sums {
         let supply = self.supply;
         let loads = self.loads;
         let readings = f.readings;
-        let unit = marks::capability_of(readings, f.availability, f.bid_up, f.bid_down);
+        let unit = triggers::capability_of(readings, f.availability, f.bid_up, f.bid_down);
         Sums {
             flags: flags.plus(f, k),
             present: present.plus(load, f),
@@ -195,14 +195,14 @@ impl Sums {
         let kept = self.kept;
         let supply = self.supply;
         let loads = self.loads;
-        let direction = marks::direction_of(present.target, present.power);
+        let direction = triggers::direction_of(present.target, present.power);
         Basis {
             power: present.power,
             target: kept.target,
             up: kept.raise,
             down: kept.lower,
-            availability: marks::greater(supply.availability, loads.availability),
-            rate: marks::greater(supply.rate(direction), loads.rate(direction.turned())),
+            availability: triggers::greater(supply.availability, loads.availability),
+            rate: triggers::greater(supply.rate(direction), loads.rate(direction.turned())),
             doubtful: flags.doubtful,
             capped: false,
             unidirectional: false,

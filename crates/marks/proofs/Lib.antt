@@ -2,7 +2,6 @@
 pub mod Small
 pub mod Held
 pub mod Fields
-pub mod Thresholds
 pub mod Rows
 pub mod SemiScheduled
 pub mod Levels

@@ -9,7 +9,7 @@ use Rattle.telemetry.specs.Ranges.{isUnidirectional}
 use Rattle.telemetry.specs.declared.Fields.{Fields}
 use Rattle.telemetry.specs.declared.Reading.the-variants.{Good}
 use Rattle.telemetry.proofs.Rows.{rows}
-use Rattle.marks.specs.Triggers.{directionOf, rateOf, unitCapability, triggerOf}
+use Rattle.triggers.specs.Triggers.{directionOf, rateOf, unitCapability, triggerOf}
 use Rattle.marks.specs.Errors.{errorOf, exceeds}
 use Rattle.marks.specs.Assessments.{kilowattsIn, isMissing, isDoubtful, isKnown, markOf, judged, upOf, downOf}
 use Rattle.marks.specs.Assessments.{isCapped, unitBasis, knownAssessment, readableAssessment, unitAssessment}

@@ -18,14 +18,15 @@ use Rattle.telemetry.specs.declared.Reading.the-variants.{Good, Substituted, Mi
 use Rattle.trace.proofs.Tests.{and-l, and-r}
 use Rattle.floats.proofs.Floats.{kilowatts-size}
 use Rattle.telemetry.proofs.Clauses.{target-small, availability-small, raise-small, lower-small}
-use Rattle.marks.specs.Triggers.{directionOf, rateOf, capabilityOf, unitCapability}
+use Rattle.triggers.specs.Triggers.{directionOf, rateOf, capabilityOf, unitCapability}
 use Rattle.marks.specs.KeptLines.{nothingKept, keptFrom, keptBounded}
 use Rattle.marks.specs.Errors.{overOf, underOf, errorOf}
 use Rattle.marks.specs.Assessments.{kilowattsIn, unitBasis}
-use Rattle.marks.specs.Bounds.{SmallFields, SmallLine, SmallKept, SmallCapability, SmallBasis}
-use Rattle.marks.specs.declared.Direction.{Direction}
-use Rattle.marks.specs.declared.Direction.the-variants.{Up, Down, Level}
-use Rattle.marks.specs.declared.Capability.{Capability}
+use Rattle.triggers.specs.Bounds.{SmallCapability}
+use Rattle.marks.specs.Bounds.{SmallFields, SmallLine, SmallKept, SmallBasis}
+use Rattle.triggers.specs.declared.Direction.{Direction}
+use Rattle.triggers.specs.declared.Direction.the-variants.{Up, Down, Level}
+use Rattle.triggers.specs.declared.Capability.{Capability}
 use Rattle.marks.specs.declared.Kept.{Kept}
 use Rattle.marks.specs.declared.Basis.{Basis}
 

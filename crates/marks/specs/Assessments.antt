@@ -11,7 +11,7 @@ use Rattle.telemetry.specs.declared.Line.{Line}
 use Rattle.telemetry.specs.declared.Line.the-variants.{Readable, Unreadable}
 use Rattle.telemetry.specs.declared.Reading.{Reading}
 use Rattle.telemetry.specs.declared.Reading.the-variants.{Good, Substituted, Missing}
-use Rattle.marks.specs.Triggers.{directionOf, rateOf, unitCapability, smallTrigger, largeTrigger}
+use Rattle.triggers.specs.Triggers.{directionOf, rateOf, unitCapability, smallTrigger, largeTrigger}
 use Rattle.marks.specs.Errors.{errorOf, countedOf, exceeds}
 use Rattle.marks.specs.Levels.{levelOf}
 use Rattle.marks.specs.declared.Kept.{Kept}

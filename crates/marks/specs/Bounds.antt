@@ -5,7 +5,6 @@ use lib.IntN.{natAbs}
 use Rattle.telemetry.specs.declared.Fields.{Fields}
 use Rattle.telemetry.specs.declared.Line.{Line}
 use Rattle.telemetry.specs.declared.Line.the-variants.{Readable, Unreadable}
-use Rattle.marks.specs.declared.Capability.{Capability}
 use Rattle.marks.specs.declared.Kept.{Kept}
 use Rattle.marks.specs.declared.Sight.{Sight}
 use Rattle.marks.specs.declared.Basis.{Basis}
@@ -28,12 +27,6 @@ pub record SmallKept (k : Kept) : Type 0 where
 pub record SmallSight (v : Sight) : Type 0 where
   pub line : SmallLine (v .line)
   pub kept : SmallKept (v .kept)
-
-pub record SmallCapability (n : ℕ) (c : Capability) : Type 0 where
-  pub availability : c .availability ≤ n
-  pub up : c .up ≤ n
-  pub down : c .down ≤ n
-  pub least : c .least ≤ n
 
 pub record SmallBasis (b : Basis) : Type 0 where
   pub power : natAbs (b .power) ≤ 130000000

@@ -1,5 +1,4 @@
 -- The words of the crate's contracts.
-pub mod Triggers
 pub mod KeptLines
 pub mod Errors
 pub mod Levels

@@ -7,7 +7,7 @@ use Rattle.floats.specs.Kilowatts.{kilowattsOf}
 use Rattle.telemetry.specs.Table.{BitsRows}
 use Rattle.telemetry.specs.declared.Fields.{Fields}
 use Rattle.telemetry.specs.declared.Line.the-variants.{Readable}
-use Rattle.marks.specs.Triggers.{smallTrigger, largeTrigger}
+use Rattle.triggers.specs.Triggers.{smallTrigger, largeTrigger}
 use Rattle.marks.specs.Assessments.{unitBasis, unitAssessment}
 use Rattle.marks.specs.declared.Kept.{Kept}
 use Rattle.marks.specs.declared.Mark.{Mark}

@@ -31,7 +31,7 @@ use Rattle.marks.specs.declared.Sight.{Sight}
 use Rattle.aggregates.specs.declared.Sums.{Sums}
 use Rattle.marks.proofs.Small.{unit-small, error-size}
 use Rattle.aggregates.proofs.Small.{wider, member-more, no-sums-small, aggregate-small}
-use Rattle.marks.proofs.Thresholds.{small-bounded}
+use Rattle.triggers.proofs.Thresholds.{small-bounded}
 use Rattle.points.specs.declared.Point.{Point}
 use Rattle.points.proofs.Levels.{level-after}
 use Rattle.intervals.specs.Plants.{total, place, placesOf}

@@ -12,9 +12,9 @@ use Rattle.signed.specs.Floors.{floored}
 use Rattle.signed.proofs.Results.{result32, result64}
 use Rattle.marks.proofs.Held.{Held, held, held-basis}
 use Rattle.marks.proofs.Small.{error-size}
-use Rattle.marks.proofs.Thresholds.{small-bounded}
+use Rattle.triggers.proofs.Thresholds.{small-bounded}
 use Rattle.marks.proofs.Fields.{assessment-is}
-use Rattle.marks.specs.Triggers.{smallTrigger, largeTrigger}
+use Rattle.triggers.specs.Triggers.{smallTrigger, largeTrigger}
 use Rattle.marks.specs.Errors.{errorOf}
 use Rattle.marks.specs.Assessments.{markOf, judged}
 use Rattle.marks.proofs.judge.Statement.{statement}

@@ -8,7 +8,7 @@ use mir.Val.{toZ, ofZ}
 use Rattle.signed.proofs.Sizes.{held32}
 use Rattle.telemetry.specs.Lines.{powerOf}
 use Rattle.telemetry.specs.declared.Fields.{Fields}
-use Rattle.marks.specs.Triggers.{directionOf, rateOf, unitCapability}
+use Rattle.triggers.specs.Triggers.{directionOf, rateOf, unitCapability}
 use Rattle.marks.specs.Assessments.{kilowattsIn, isDoubtful, unitBasis}
 use Rattle.marks.proofs.Fields.{basis-is}
 use Rattle.signed.proofs.Results.{result32, result64}

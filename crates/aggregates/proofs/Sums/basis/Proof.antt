@@ -3,8 +3,8 @@ use borrow.Author.Needs.{needs}
 use mathlib.Core.Path.{_≡_, refl, ap, ap₂, _∙_}
 use Prim.Native.Nat.{max}
 use lib.Dec.{lit<}
-use Rattle.marks.specs.Triggers.{directionOf, opposite, rateOf}
-use Rattle.marks.specs.declared.Direction.{Direction}
+use Rattle.triggers.specs.Triggers.{directionOf, opposite, rateOf}
+use Rattle.triggers.specs.declared.Direction.{Direction}
 use Rattle.marks.proofs.Fields.{basis-is}
 use Rattle.aggregates.specs.Aggregates.{wayOf, aggregateBasis}
 use Rattle.aggregates.proofs.Held.{held-present, held-kept}

@@ -3,7 +3,7 @@ use borrow.Author.Needs.{needs}
 use native.Mathlib.Omega.{arith}
 use Rattle.marks.proofs.Small.{capability-small}
 use Rattle.aggregates.specs.Aggregates.{addReadable}
-use Rattle.marks.specs.Bounds.{SmallCapability}
+use Rattle.triggers.specs.Bounds.{SmallCapability}
 use Rattle.aggregates.proofs.Sums.plus_readable.Statement.{statement}
 use Rattle.aggregates.proofs.Sums.plus_readable.Tie as tie
 

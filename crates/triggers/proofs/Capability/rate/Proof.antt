@@ -1,8 +1,8 @@
--- `marks::Capability::rate` meets its contract: each arm is given which constructor it is. Assumes nothing.
+-- `triggers::Capability::rate` meets its contract: each arm is given which constructor it is. Assumes nothing.
 use borrow.Author.Needs.{needs}
-use Rattle.marks.specs.Triggers.{rateOf}
-use Rattle.marks.proofs.Capability.rate.Statement.{statement}
-use Rattle.marks.proofs.Capability.rate.Tie as tie
+use Rattle.triggers.specs.Triggers.{rateOf}
+use Rattle.triggers.proofs.Capability.rate.Statement.{statement}
+use Rattle.triggers.proofs.Capability.rate.Tie as tie
 
 enum-told : tie.Need-enum-told
 enum-told c = search needs

@@ -6,9 +6,9 @@ use lib.Signed.{ltZ}
 use Rattle.floats.specs.Kilowatts.{kilowattsOf}
 use Rattle.telemetry.specs.declared.Readings.{Readings}
 use Rattle.telemetry.specs.declared.Fields.{Fields}
-use Rattle.marks.specs.declared.Direction.{Direction}
-use Rattle.marks.specs.declared.Direction.the-variants.{Up, Down, Level}
-use Rattle.marks.specs.declared.Capability.{Capability}
+use Rattle.triggers.specs.declared.Direction.{Direction}
+use Rattle.triggers.specs.declared.Direction.the-variants.{Up, Down, Level}
+use Rattle.triggers.specs.declared.Capability.{Capability}
 
 -- ---- rate of change
 

@@ -1,8 +1,8 @@
--- `marks::Direction::turned` meets its contract: each arm is given which constructor it is. Assumes nothing.
+-- `triggers::Direction::turned` meets its contract: each arm is given which constructor it is. Assumes nothing.
 use borrow.Author.Needs.{needs}
-use Rattle.marks.specs.Triggers.{opposite}
-use Rattle.marks.proofs.Direction.turned.Statement.{statement}
-use Rattle.marks.proofs.Direction.turned.Tie as tie
+use Rattle.triggers.specs.Triggers.{opposite}
+use Rattle.triggers.proofs.Direction.turned.Statement.{statement}
+use Rattle.triggers.proofs.Direction.turned.Tie as tie
 
 enum-told : tie.Need-enum-told
 enum-told c = search needs

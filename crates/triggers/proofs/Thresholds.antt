@@ -1,7 +1,7 @@
 -- Facts on triggers, shared by units and aggregates. Assumes nothing.
 use Prim.Native.Nat.{ℕ, _≤_}
 use native.Mathlib.Omega.{arith}
-use Rattle.marks.specs.Triggers.{triggerOf, smallTrigger, largeTrigger}
+use Rattle.triggers.specs.Triggers.{triggerOf, smallTrigger, largeTrigger}
 
 -- the large trigger is never below the small one
 pub small-le-large : (availability rate : ℕ) → smallTrigger availability rate ≤ largeTrigger availability rate

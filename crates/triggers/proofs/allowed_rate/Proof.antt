@@ -1,12 +1,12 @@
--- `marks::allowed_rate` meets its contract. Assumes nothing.
+-- `triggers::allowed_rate` meets its contract. Assumes nothing.
 use borrow.Author.Needs.{needs}
 use mathlib.Core.Path.{_≡_}
 use mir.Syntax.{w64}
 use mir.Val.{toZ, ofZ}
 use Rattle.floats.specs.Kilowatts.{kilowattsOf}
 use Rattle.signed.proofs.Results.{result32, result64}
-use Rattle.marks.proofs.allowed_rate.Statement.{statement}
-use Rattle.marks.proofs.allowed_rate.Tie as tie
+use Rattle.triggers.proofs.allowed_rate.Statement.{statement}
+use Rattle.triggers.proofs.allowed_rate.Tie as tie
 
 wide-is : (c : tie.After-widened) → toZ w64 (ofZ w64 (c .widened .result)) ≡ kilowattsOf (c .before .before .args .scada)
 wide-is c = cc (result32 (c .before .kilowatts), result64 (c .widened))

@@ -1,10 +1,10 @@
--- `marks::trigger_of` meets its contract. Assumes nothing.
+-- `triggers::trigger_of` meets its contract. Assumes nothing.
 use borrow.Author.Needs.{needs}
 use native.Mathlib.Omega.{arith}
 use native.Mathlib.Nat.{mul-le-mul}
-use Rattle.marks.specs.Triggers.{triggerOf}
-use Rattle.marks.proofs.trigger_of.Statement.{statement}
-use Rattle.marks.proofs.trigger_of.Tie as tie
+use Rattle.triggers.specs.Triggers.{triggerOf}
+use Rattle.triggers.proofs.trigger_of.Statement.{statement}
+use Rattle.triggers.proofs.trigger_of.Tie as tie
 
 mul-lesser : tie.Need-mul-lesser
 mul-lesser c = omega (arith, mul-le-mul (c .pre .0) (c .pre .2))

@@ -1,13 +1,13 @@
--- `marks::direction_of` meets its contract. Assumes nothing.
+-- `triggers::direction_of` meets its contract. Assumes nothing.
 use mathlib.Core.Path.{_≡_}
 use mathlib.Core.Bool.{false}
 use mir.Syntax.{w64}
 use mir.Val.{toZ, ofZ}
 use mir.ValLaws.{toZ-ofZ}
 use lib.Signed.{ltZ}
-use Rattle.marks.specs.Triggers.{directionOf}
-use Rattle.marks.proofs.direction_of.Statement.{statement}
-use Rattle.marks.proofs.direction_of.Tie as tie
+use Rattle.triggers.specs.Triggers.{directionOf}
+use Rattle.triggers.proofs.direction_of.Statement.{statement}
+use Rattle.triggers.proofs.direction_of.Tie as tie
 
 -- the signed numbers, as locals hold them
 target-is : (s : tie.Start) → toZ w64 (ofZ w64 (s .args .target)) ≡ s .args .target

@@ -1,8 +1,8 @@
--- `marks::Capability::plus` meets its contract. Assumes nothing.
+-- `triggers::Capability::plus` meets its contract. Assumes nothing.
 use borrow.Author.Needs.{needs}
-use Rattle.marks.specs.Triggers.{addCapability}
-use Rattle.marks.proofs.Capability.plus.Statement.{statement}
-use Rattle.marks.proofs.Capability.plus.Tie as tie
+use Rattle.triggers.specs.Triggers.{addCapability}
+use Rattle.triggers.proofs.Capability.plus.Statement.{statement}
+use Rattle.triggers.proofs.Capability.plus.Tie as tie
 
 add-availability : tie.Need-add-availability
 add-availability c = search needs

@@ -1,8 +1,8 @@
--- `marks::capability_of` meets its contract. Assumes nothing.
+-- `triggers::capability_of` meets its contract. Assumes nothing.
 use borrow.Author.Needs.{needs}
-use Rattle.marks.specs.Triggers.{capabilityOf}
-use Rattle.marks.proofs.capability_of.Statement.{statement}
-use Rattle.marks.proofs.capability_of.Tie as tie
+use Rattle.triggers.specs.Triggers.{capabilityOf}
+use Rattle.triggers.proofs.capability_of.Statement.{statement}
+use Rattle.triggers.proofs.capability_of.Tie as tie
 
 allowed-rate-requires : tie.Need-allowed-rate-requires
 allowed-rate-requires c κs = search needs
