@@ -6,8 +6,8 @@ use Prim.Native.Nat.{ℕ, zero, suc, _+_, _-_}
 use lib.Dec.{eqb, ltb}
 use lib.ListN.{getD}
 use Rattle.telemetry.specs.Ranges.{isUnidirectional}
-use Rattle.register.specs.Chains.{membersOf}
-use Rattle.register.specs.declared.Plant.{Plant}
+use Rattle.plants.specs.Chains.{membersOf}
+use Rattle.plants.specs.declared.Plant.{Plant}
 
 abbrev pub total : Plant → ℕ
 total plant = plant .units + plant .aggregates

@@ -8,7 +8,7 @@ use lib.IntN.{ℤ, pos}
 use lib.ListN.{length}
 use Rattle.trace.specs.Sweeps.{records}
 use Rattle.trace.specs.Lists.{fold, updated, below}
-use Rattle.register.specs.declared.Plant.{Plant}
+use Rattle.plants.specs.declared.Plant.{Plant}
 use Rattle.marks.specs.KeptLines.{nothingKept, keptFrom}
 use Rattle.marks.specs.declared.Kept.{Kept}
 use Rattle.marks.specs.declared.Assessment.{Assessment}

@@ -4,11 +4,11 @@ use mathlib.Core.List.{List}
 use Prim.Native.Nat.{ℕ}
 use lib.ListN.{length}
 use Rattle.trace.specs.Lists.{fold}
-use Rattle.register.specs.Chains.{allMembers}
+use Rattle.plants.specs.Chains.{allMembers}
 use Rattle.register.specs.Registers.{answerNumber, answerVisits, registeredOf, registerRefusal}
 use Rattle.register.specs.declared.Answer.{Answer}
 use Rattle.register.specs.declared.Answer.the-variants.{Accepted, Refused}
-use Rattle.register.specs.declared.Plant.{Plant}
+use Rattle.plants.specs.declared.Plant.{Plant}
 use Rattle.intervals.specs.Monitors.{freshly}
 use Rattle.intervals.specs.declared.Monitor.{Monitor}
 use Rattle.monitor.specs.Calls.{Call, next, after}

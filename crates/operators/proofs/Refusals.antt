@@ -4,7 +4,7 @@ use mathlib.Core.Bool.{true, _||_, not}
 use mathlib.Core.List.{_∷_}
 use Prim.Native.Nat.{ℕ}
 use lib.Dec.{eqb}
-use Rattle.register.specs.declared.Plant.{Plant}
+use Rattle.plants.specs.declared.Plant.{Plant}
 use Rattle.targets.specs.Targets.{noTarget}
 use Rattle.targets.specs.declared.Target.{Target}
 use Rattle.points.specs.Points.{normal, spanOf}

@@ -8,7 +8,7 @@ use lib.Dec.{leb, eqb}
 use lib.IntN.{ℤ, natAbs}
 use lib.ListN.{set}
 use Rattle.trace.specs.Refusals.{Refusal, firstOf}
-use Rattle.register.specs.declared.Plant.{Plant}
+use Rattle.plants.specs.declared.Plant.{Plant}
 use Rattle.marks.specs.Levels.{isDispatchable}
 use Rattle.targets.specs.Targets.{noTarget}
 use Rattle.targets.specs.declared.Target.{Target}

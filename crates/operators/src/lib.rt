@@ -2,9 +2,9 @@
 use intervals::Monitor;
 use intervals::Stepped;
 use intervals::Verdict;
+use plants::Plant;
 use points::Point;
 use points::Reason;
-use register::Plant;
 use targets::Target;
 ghost use mathlib.Core.Path.{_≡_};
 ghost use mathlib.Core.Bool.{_&&_};

@@ -5,10 +5,10 @@ use mathlib.Core.List.{List, [], _∷_, map}
 use Prim.Native.Nat.{ℕ, suc, _+_, _-_, _*_, _≤_, _<_}
 use native.Mathlib.Omega.{arith}
 use lib.ListN.{getD}
-use Rattle.register.specs.Chains.{chain, membersOf}
-use Rattle.register.specs.declared.Plant.{Plant}
-use Rattle.register.proofs.Chains.{chain-end, chain-out, chain-turn}
-use Rattle.register.proofs.Soundness.{sound-units, sound-indices, next-inside, head-inside}
+use Rattle.plants.specs.Chains.{chain, membersOf}
+use Rattle.plants.specs.declared.Plant.{Plant}
+use Rattle.plants.proofs.Chains.{chain-end, chain-out, chain-turn}
+use Rattle.plants.proofs.Soundness.{sound-units, sound-indices, next-inside, head-inside}
 use Rattle.marks.specs.declared.Sight.{Sight}
 use Rattle.aggregates.specs.Aggregates.{noSums, addMember}
 use Rattle.aggregates.specs.Sizes.{SmallSums}

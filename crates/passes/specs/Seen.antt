@@ -8,9 +8,9 @@ use lib.Ieee.{nan}
 use lib.IntN.{pos}
 use lib.ListN.{getD}
 use Rattle.telemetry.specs.declared.Line.the-variants.{Readable}
-use Rattle.register.specs.Chains.{membersOf}
-use Rattle.register.specs.Plants.{plantSound}
-use Rattle.register.specs.declared.Plant.{Plant}
+use Rattle.plants.specs.Chains.{membersOf}
+use Rattle.plants.specs.Plants.{plantSound}
+use Rattle.plants.specs.declared.Plant.{Plant}
 use Rattle.marks.specs.KeptLines.{nothingKept}
 use Rattle.marks.specs.Bounds.{SmallSight}
 use Rattle.marks.specs.declared.Sight.{Sight}

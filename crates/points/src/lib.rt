@@ -9,7 +9,7 @@ ghost use Rattle.points.specs.Points.{reaches, statusOf, graded, isCount
 ghost use Rattle.points.specs.Records.{recordOf};
 use marks::Assessment;
 use marks::Mark;
-use register::Lengths;
+use plants::Lengths;
 
 // The marks that a run has counted, as stored, and the interval number of the first of them. No run: 0 and 0.
 pub struct Run {

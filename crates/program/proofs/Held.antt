@@ -17,7 +17,7 @@ use Rattle.signed.proofs.Sizes.{size-fits}
 use Rattle.signed.proofs.Floors.{floored-size}
 use Rattle.telemetry.specs.declared.Line.{Line}
 use Rattle.telemetry.specs.declared.Line.the-variants.{Readable, Unreadable}
-use Rattle.register.specs.Chains.{chain, membersOf}
+use Rattle.plants.specs.Chains.{chain, membersOf}
 use Rattle.marks.specs.Assessments.{isKnown, isUncapped, judged, without, unitBasis, knownAssessment, readableAssessment, lineAssessment, unitAssessment}
 use Rattle.aggregates.specs.Aggregates.{noSums, addMember, addMembers, aggregateBasis, sumsAssessment, aggregateAssessment}
 use Rattle.marks.specs.Bounds.{SmallLine, SmallKept, SmallSight, SmallBasis}

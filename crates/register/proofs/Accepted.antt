@@ -12,18 +12,20 @@ use Rattle.trace.specs.Sweeps.{sweep, records}
 use Rattle.trace.proofs.Sweeps.{below-or-not, every-at, every-all, length-sweep, getD-sweep}
 use Rattle.trace.proofs.Tests.{and-l, and-r}
 use Rattle.register.specs.declared.Answer.the-variants.{Accepted}
-use Rattle.register.specs.declared.Plant.{Plant}
+use Rattle.plants.specs.declared.Plant.{Plant}
 use Rattle.register.specs.declared.Registered.{Registered}
 use Rattle.register.specs.Fields.{unitCount, aggregateCount, lengthsAt, fieldAt, headsPlace, kindsOf, nextsOf, headsOf, fieldsOf}
-use Rattle.register.specs.Chains.{chain, Chain, membersOf, allMembers, timesIn, metAt, chainedOf, withChains}
-use Rattle.register.specs.Rules.{longEnough, countsIn, wholeLength, rising, headerSpare, unitsSpare, headsSpare, onceAt, endsAt, scheduledAt}
-use Rattle.register.specs.Plants.{kindsKnown, indicesIn, metOnce, restEnds, membersScheduled, plantSound}
-use Rattle.register.specs.Registers.{noPlant, unless, refusedBy, acceptedAs}
+use Rattle.plants.specs.Chains.{chain, Chain, membersOf, allMembers, timesIn, metAt, chainedOf, withChains}
+use Rattle.register.specs.Rules.{longEnough, wholeLength, rising, headerSpare, unitsSpare, headsSpare}
+use Rattle.plants.specs.Rules.{countsIn, onceAt, endsAt, scheduledAt}
+use Rattle.plants.specs.Plants.{kindsKnown, indicesIn, metOnce, restEnds, membersScheduled, plantSound}
+use Rattle.plants.specs.Plants.{noPlant}
+use Rattle.register.specs.Registers.{unless, refusedBy, acceptedAs}
 use Rattle.register.specs.Registers.{lengthsRise, fieldsKnown, chainedFrom, recordsFrom, registeredOf}
-use Rattle.register.proofs.Soundness.{sound-by, sound-units, sound-indices, head-least}
-use Rattle.register.proofs.Chains.{chain-whole, chain-same, units-in}
-use Rattle.register.proofs.Walks.{members-units, all-units, length-chained}
-use Rattle.register.proofs.Members.{times-one, times-two, times-somewhere, times-at-most, once-length}
+use Rattle.plants.proofs.Soundness.{sound-by, sound-units, sound-indices, head-least}
+use Rattle.plants.proofs.Chains.{chain-whole, chain-same, units-in}
+use Rattle.plants.proofs.Walks.{members-units, all-units, length-chained}
+use Rattle.plants.proofs.Members.{times-one, times-two, times-somewhere, times-at-most, once-length}
 
 -- ---- the rules that it has passed
 

@@ -1,8 +1,4 @@
 -- Laws of `specs/`, each shown once.
-pub mod Soundness
-pub mod Chains
-pub mod Walks
-pub mod Members
 pub mod Readings
 pub mod Accepted
 pub mod Refusals

@@ -8,19 +8,21 @@ use borrow.Author.Tests.{not-true, not-false, le-leb, lt-leb, eqb-true}
 use lib.ListN.{length, replicate}
 use Rattle.trace.specs.Sweeps.{every, sweep}
 use Rattle.trace.proofs.Tests.{and-l, and-r}
-use Rattle.register.specs.declared.Lengths.{Lengths}
-use Rattle.register.specs.declared.Plant.{Plant}
+use Rattle.plants.specs.declared.Lengths.{Lengths}
+use Rattle.plants.specs.declared.Plant.{Plant}
 use Rattle.register.specs.declared.Registered.{Registered}
 use Rattle.register.specs.declared.Answer.the-variants.{Accepted}
-use Rattle.register.specs.declared.visits.Walk.{Walk}
+use Rattle.plants.specs.declared.visits.Walk.{Walk}
 use Rattle.register.specs.Fields.{unitCount, aggregateCount, lengthsAt, fieldAt, kindsOf, nextsOf, headsOf, fieldsOf}
-use Rattle.register.specs.Chains.{allMembers, chainedOf, withChains}
-use Rattle.register.specs.Rules.{countsIn, wholeLength, spareAt, headerSpare, unitsSpare, headsSpare}
-use Rattle.register.specs.Plants.{kindsKnown, indicesIn, metOnce, restEnds, membersScheduled, plantSound}
+use Rattle.plants.specs.Chains.{allMembers, chainedOf, withChains}
+use Rattle.plants.specs.Rules.{countsIn}
+use Rattle.register.specs.Rules.{wholeLength, spareAt, headerSpare, unitsSpare, headsSpare}
+use Rattle.plants.specs.Plants.{kindsKnown, indicesIn, metOnce, restEnds, membersScheduled, plantSound}
 use Rattle.register.specs.Registers.{refusedBy, acceptedAs, lengthsRise, fieldsKnown, chainedFrom, recordsFrom, registeredOf}
-use Rattle.register.specs.Walks.{Headed, unwalked, walked}
-use Rattle.register.proofs.Soundness.{counts-in, counts-least, counts-units, counts-aggregates, sound-by, sound-units, sound-indices}
-use Rattle.register.proofs.Walks.{walk-twice, walk-met, walk-steps}
+use Rattle.register.specs.Headers.{Headed}
+use Rattle.plants.specs.Walks.{unwalked, walked}
+use Rattle.plants.proofs.Soundness.{counts-in, counts-least, counts-units, counts-aggregates, sound-by, sound-units, sound-indices}
+use Rattle.plants.proofs.Walks.{walk-twice, walk-met, walk-steps}
 
 -- a rule whose test the code found to fail, or to hold
 failed : {t holds : Bool} → t ≡ holds → not t ≡ true → holds ≡ false

@@ -9,13 +9,15 @@ use lib.ListN.{length}
 use Rattle.trace.specs.Refusals.{firstOf}
 use Rattle.trace.specs.Sweeps.{records}
 use Rattle.register.specs.declared.Answer.the-variants.{Accepted}
-use Rattle.register.specs.declared.Plant.{Plant}
+use Rattle.plants.specs.declared.Plant.{Plant}
 use Rattle.register.specs.declared.Registered.{Registered}
 use Rattle.register.specs.Fields.{unitCount, aggregateCount, fieldsOf}
-use Rattle.register.specs.Chains.{membersOf, allMembers, withChains}
-use Rattle.register.specs.Rules.{longEnough, countsIn, wholeLength}
-use Rattle.register.specs.Plants.{indicesIn, metOnce, restEnds, membersScheduled}
-use Rattle.register.specs.Registers.{answerNumber, answerVisits, unless, noPlant, refusedBy, acceptedAs, lengthsRise, fieldsKnown}
+use Rattle.plants.specs.Chains.{membersOf, allMembers, withChains}
+use Rattle.register.specs.Rules.{longEnough, wholeLength}
+use Rattle.plants.specs.Rules.{countsIn}
+use Rattle.plants.specs.Plants.{indicesIn, metOnce, restEnds, membersScheduled}
+use Rattle.register.specs.Registers.{answerNumber, answerVisits, unless, refusedBy, acceptedAs, lengthsRise, fieldsKnown}
+use Rattle.plants.specs.Plants.{noPlant}
 use Rattle.register.specs.Registers.{chainedFrom, recordsFrom, registeredOf, registerRefusal, Reads}
 
 -- A result whose refusal is number n, 0 where none applies: the number in 01, the visits, which are the number of units in the chains of

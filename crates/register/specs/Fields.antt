@@ -4,8 +4,8 @@ use mathlib.Core.List.{List}
 use Prim.Native.Nat.{ℕ, _+_, _*_}
 use lib.ListN.{getD, replicate}
 use Rattle.trace.specs.Sweeps.{sweep}
-use Rattle.register.specs.declared.Lengths.{Lengths}
-use Rattle.register.specs.declared.Plant.{Plant}
+use Rattle.plants.specs.declared.Lengths.{Lengths}
+use Rattle.plants.specs.declared.Plant.{Plant}
 
 abbrev pub byteAt : List ℕ → ℕ → ℕ
 byteAt bytes place = getD bytes place 0

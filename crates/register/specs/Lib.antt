@@ -1,7 +1,5 @@
--- What the contracts cite. A reader has to believe Fields, Chains, Rules, Registers and Plants; Walks says what the code keeps on its way.
+-- What the contracts cite. A reader has to believe Fields, Rules and Registers; Headers says what the code knows on its way.
 pub mod Fields
-pub mod Chains
 pub mod Rules
 pub mod Registers
-pub mod Plants
-pub mod Walks
+pub mod Headers

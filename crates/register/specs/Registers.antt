@@ -1,20 +1,20 @@
 -- A register is refused by the first rule that it fails: short 1, then 2, length 1, 3, 4 over the whole register, 5 over the whole
 -- register, 6, 7 (01, "Refused because of what was sent"), 30 (02, 2026-01).
 use mathlib.Core.Path.{_≡_}
-use mathlib.Core.Bool.{Bool, false, cond, _&&_, not}
+use mathlib.Core.Bool.{Bool, cond, _&&_, not}
 use mathlib.Core.List.{List, [], _∷_}
 use Prim.Native.Nat.{ℕ}
-use lib.ListN.{length, replicate}
+use lib.ListN.{length}
 use Rattle.trace.specs.Refusals.{firstOf}
 use Rattle.register.specs.declared.Answer.{Answer}
 use Rattle.register.specs.declared.Answer.the-variants.{Accepted, Refused}
-use Rattle.register.specs.declared.Lengths.{Lengths}
-use Rattle.register.specs.declared.Plant.{Plant}
+use Rattle.plants.specs.declared.Plant.{Plant}
 use Rattle.register.specs.declared.Registered.{Registered}
 use Rattle.register.specs.Fields.{unitCount, aggregateCount, lengthsAt, fieldsOf}
-use Rattle.register.specs.Chains.{allMembers, withChains}
-use Rattle.register.specs.Rules.{longEnough, countsIn, wholeLength, rising, headerSpare, unitsSpare, headsSpare}
-use Rattle.register.specs.Plants.{kindsKnown, indicesIn, metOnce, restEnds, membersScheduled}
+use Rattle.plants.specs.Chains.{allMembers, withChains}
+use Rattle.register.specs.Rules.{longEnough, wholeLength, rising, headerSpare, unitsSpare, headsSpare}
+use Rattle.plants.specs.Rules.{countsIn}
+use Rattle.plants.specs.Plants.{noPlant, kindsKnown, indicesIn, metOnce, restEnds, membersScheduled}
 
 -- ---- the answer in 01's numbers
 
@@ -29,22 +29,6 @@ answerVisits (Accepted visits) = visits
 answerVisits (Refused number) = 0
 
 -- ---- what is returned
-
-abbrev noLengths : Lengths
-noLengths = record { «not_responding» = 0; pending = 0; declaration = 0 }
-
-unfoldable pub noPlant : Plant
-noPlant =
-    record {
-      units = 0;
-      aggregates = 0;
-      small = noLengths;
-      large = noLengths;
-      kinds = replicate 64 0;
-      next = replicate 64 0;
-      heads = replicate 16 0;
-      chained = replicate 64 false;
-    }
 
 unfoldable pub refusedBy : ℕ → Registered
 refusedBy number = record { answer = Refused number; plant = noPlant }

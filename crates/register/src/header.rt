@@ -3,22 +3,17 @@ ghost use mathlib.Core.Path.{_≡_};
 ghost use Prim.Native.Nat.{_+_, _≤_};
 ghost use lib.ListN.{length};
 ghost use Rattle.register.specs.Fields.{unitCount, aggregateCount, lengthsAt};
-ghost use Rattle.register.specs.Rules.{countsIn, wholeLength, rising};
+ghost use Rattle.plants.specs.Rules.{countsIn};
+ghost use Rattle.register.specs.Rules.{wholeLength, rising};
 ghost use Rattle.register.specs.Registers.{lengthsRise};
-use crate::Lengths;
 use crate::byte_at;
-
-pub(crate) fn counts_in(units: usize, aggregates: usize) -> bool
-    ensures { λ r. ⌜ r ≡ countsIn units aggregates ⌝ }
-{
-    (1 <= units) & (units <= 64) & (aggregates <= 16)
-}
+use plants::Lengths;
 
 pub(crate) fn counts_known(bytes: &[u8]) -> bool
     requires { ⌜ 16 ≤ length (now bytes) ⌝ }
     ensures { λ r. ⌜ r ≡ countsIn (unitCount (now (bytes .entry))) (aggregateCount (now (bytes .entry))) ⌝ }
 {
-    counts_in(byte_at(bytes, 0), byte_at(bytes, 1))
+    plants::counts_in(byte_at(bytes, 0), byte_at(bytes, 1))
 }
 
 pub(crate) fn whole_length(bytes: &[u8]) -> bool

@@ -1,39 +1,19 @@
 // Reads a register (01, "The register"; 02, 2026-01): the plant and the visits along its chains, or the number of its refusal.
 
 mod header;
-mod plants;
 mod records;
-mod visits;
 
-pub use plants::plant_sound;
 ghost use mathlib.Core.Path.{_≡_};
 ghost use mathlib.Core.Bool.{true};
 ghost use Prim.Native.Nat.{_<_};
 ghost use lib.ListN.{length};
-ghost use Rattle.register.specs.Chains.{chainedOf, withChains};
+ghost use Rattle.plants.specs.Chains.{chainedOf, withChains};
 ghost use Rattle.register.specs.Fields.{byteAt};
-ghost use Rattle.register.specs.Plants.{plantSound};
-ghost use Rattle.register.specs.Registers.{answerNumber, answerVisits, noPlant, refusedBy, chainedFrom, recordsFrom, Reads};
-ghost use Rattle.register.specs.Walks.{Headed};
-
-// Run lengths: to Not-Responding, to Pending, to declaration.
-pub struct Lengths {
-    pub not_responding: u8,
-    pub pending: u8,
-    pub declaration: u8,
-}
-
-// What a register says. A unit's index is its number less one; 0 ends a chain. Entries past the counts are 0 and false.
-pub struct Plant {
-    pub units: usize,
-    pub aggregates: usize,
-    pub small: Lengths,
-    pub large: Lengths,
-    pub kinds: [u8; 64],
-    pub next: [u8; 64],
-    pub heads: [u8; 16],
-    pub chained: [bool; 64],
-}
+ghost use Rattle.plants.specs.Plants.{plantSound};
+ghost use Rattle.register.specs.Registers.{answerNumber, answerVisits, refusedBy, chainedFrom, recordsFrom, Reads};
+ghost use Rattle.plants.specs.Plants.{noPlant};
+ghost use Rattle.register.specs.Headers.{Headed};
+use plants::Plant;
 
 // The visits along the chains, or the number in 01.
 pub enum Answer {
@@ -69,43 +49,12 @@ pub struct Registered {
     pub plant: Plant,
 }
 
-pub(crate) fn wide(b: u8) -> usize
-    ensures { λ r. ⌜ (r ≡ b) × (r < 256) ⌝ }
-{
-    b as usize
-}
-
 // The byte at `at`.
 pub(crate) fn byte_at(bytes: &[u8], at: usize) -> usize
     requires { ⌜ at < length (now bytes) ⌝ }
     ensures { λ r. ⌜ (r ≡ byteAt (now (bytes .entry)) at) × (r < 256) ⌝ }
 {
-    wide(bytes[at])
-}
-
-// A plant of zeros.
-pub fn no_plant() -> Plant
-    ensures { λ r. ⌜ r ≡ noPlant ⌝ }
-{
-    let none = Lengths {
-        not_responding: 0,
-        pending: 0,
-        declaration: 0,
-    };
-    let kinds = [0u8; 64];
-    let next = [0u8; 64];
-    let heads = [0u8; 16];
-    let chained = [false; 64];
-    Plant {
-        units: 0,
-        aggregates: 0,
-        small: none,
-        large: none,
-        kinds,
-        next,
-        heads,
-        chained,
-    }
+    plants::wide(bytes[at])
 }
 
 fn refused(number: u32) -> Registered
@@ -113,7 +62,7 @@ fn refused(number: u32) -> Registered
 {
     Registered {
         answer: Answer::Refused(number),
-        plant: no_plant(),
+        plant: plants::no_plant(),
     }
 }
 
@@ -142,7 +91,7 @@ fn chained_from(plant: Plant) -> Registered
     requires { ⌜ plantSound plant ≡ true ⌝ }
     ensures { λ r. ⌜ r ≡ chainedFrom plant ⌝ }
 {
-    let walk = visits::walk_chains(plant);
+    let walk = plants::visits::walk_chains(plant);
     if walk.twice {
         return refused(6);
     }

@@ -6,12 +6,11 @@ ghost use lib.ListN.{length, replicate};
 ghost use Rattle.trace.specs.Sweeps.{every, sweep};
 ghost use Rattle.register.specs.Fields.{fieldAt, fieldsOf};
 ghost use Rattle.register.specs.Rules.{zeroAt, spareAt, headerSpare, unitsSpare, headsSpare};
-ghost use Rattle.register.specs.Plants.{kindsKnown};
-ghost use Rattle.register.specs.Walks.{Headed};
-use crate::Plant;
+ghost use Rattle.plants.specs.Plants.{kindsKnown};
+ghost use Rattle.register.specs.Headers.{Headed};
 use crate::byte_at;
 use crate::header;
-use crate::plants;
+use plants::Plant;
 
 // One byte of each unit record, from `at` on in the first.
 fn unit_fields(bytes: &[u8], at: usize, count: usize) -> [u8; 64]

@@ -7,10 +7,10 @@ use native.Mathlib.Omega.{arith}
 use lib.IntN.{ℤ}
 use lib.ListN.{getD}
 use Rattle.trace.specs.Lists.{allIn, fold}
-use Rattle.register.specs.Chains.{chain, membersOf}
-use Rattle.register.specs.declared.Plant.{Plant}
-use Rattle.register.proofs.Chains.{chain-end, chain-out, chain-turn}
-use Rattle.register.proofs.Soundness.{sound-units, sound-indices, next-inside, head-inside}
+use Rattle.plants.specs.Chains.{chain, membersOf}
+use Rattle.plants.specs.declared.Plant.{Plant}
+use Rattle.plants.proofs.Chains.{chain-end, chain-out, chain-turn}
+use Rattle.plants.proofs.Soundness.{sound-units, sound-indices, next-inside, head-inside}
 use Rattle.marks.specs.Bounds.{SmallKept}
 use Rattle.marks.specs.declared.Kept.{Kept}
 use Rattle.aggregates.specs.Aggregates.{addSigned}

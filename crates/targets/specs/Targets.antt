@@ -6,8 +6,8 @@ use Prim.Native.Nat.{ℕ, _+_, _-_}
 use lib.IntN.{ℤ, pos}
 use lib.ListN.{getD}
 use Rattle.trace.specs.Lists.{selected, allIn, fold}
-use Rattle.register.specs.Chains.{membersOf}
-use Rattle.register.specs.declared.Plant.{Plant}
+use Rattle.plants.specs.Chains.{membersOf}
+use Rattle.plants.specs.declared.Plant.{Plant}
 use Rattle.marks.specs.KeptLines.{nothingKept}
 use Rattle.marks.specs.declared.Kept.{Kept}
 use Rattle.aggregates.specs.Aggregates.{isLoad, addSigned}

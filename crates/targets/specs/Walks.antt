@@ -5,8 +5,8 @@ use mathlib.Core.Bool.{Bool, true, cond, _&&_}
 use mathlib.Core.List.{List}
 use Prim.Native.Nat.{ℕ, _+_, _≤_, _<_}
 use lib.IntN.{pos, natAbs}
-use Rattle.register.specs.Plants.{plantSound}
-use Rattle.register.specs.declared.Plant.{Plant}
+use Rattle.plants.specs.Plants.{plantSound}
+use Rattle.plants.specs.declared.Plant.{Plant}
 use Rattle.marks.specs.Bounds.{SmallKept}
 use Rattle.marks.specs.declared.Kept.{Kept}
 use Rattle.aggregates.specs.Aggregates.{addSigned}

@@ -6,7 +6,7 @@ ghost use Rattle.marks.specs.Bounds.{SmallKept};
 ghost use Rattle.targets.specs.Targets.{noTarget, keptIn, targetOf};
 ghost use Rattle.targets.specs.Walks.{noMembers, addMember, SmallTarget, Known};
 use marks::Kept;
-use register::Plant;
+use plants::Plant;
 
 // Over those members that have a kept line: the signed sum of MWB, and the sums of FCR and FCL. `complete` is whether every member has
 // one.

@@ -3,13 +3,13 @@ ghost use Prim.Native.Nat.{_+_, _*_, _<_, _≤_};
 ghost use mathlib.Core.Path.{_≡_};
 ghost use mathlib.Core.Bool.{true};
 ghost use lib.ListN.{length};
-ghost use Rattle.register.specs.Plants.{plantSound};
+ghost use Rattle.plants.specs.Plants.{plantSound};
 ghost use Rattle.marks.specs.Bounds.{SmallSight};
 ghost use Rattle.passes.specs.Seen.{Seen};
 use marks::Sight;
 use passes::Pass;
+use plants::Plant;
 use register::Answer;
-use register::Plant;
 
 fn size(b: u8) -> usize
     ensures { λ r. ⌜ r < 256 ⌝ }
@@ -131,7 +131,7 @@ fn print_case(label: &[u8], bytes: &[u8], samples: &[u8], given: usize, picks: &
     let plant = registered.plant;
     match answer {
         Answer::Accepted(_) => {
-            if register::plant_sound(plant) {
+            if plants::plant_sound(plant) {
                 print_passes(label, plant, sights(plant, samples, given, picks));
             }
         }

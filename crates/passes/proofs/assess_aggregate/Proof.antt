@@ -6,7 +6,7 @@ use Prim.Native.Nat.{_-_}
 use native.Mathlib.Omega.{arith}
 use borrow.Author.Tests.{not-true, not-false}
 use lib.Dec.{lit≤}
-use Rattle.register.proofs.Soundness.{sound-aggregates}
+use Rattle.plants.proofs.Soundness.{sound-aggregates}
 use Rattle.aggregates.proofs.Small.{wider}
 use Rattle.passes.specs.Seen.{seenAt}
 use Rattle.passes.proofs.Passes.{Along, along-none, along-more, along-small, along-early, along-end, along-out}

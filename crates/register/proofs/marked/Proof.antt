@@ -1,5 +1,5 @@
 -- `register::marked` meets its contract. Assumes nothing.
-use Rattle.register.specs.Chains.{withChains}
+use Rattle.plants.specs.Chains.{withChains}
 use Rattle.register.proofs.marked.Statement.{statement}
 use Rattle.register.proofs.marked.Tie as tie
 

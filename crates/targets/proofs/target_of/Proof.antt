@@ -2,7 +2,7 @@
 use borrow.Author.Needs.{needs}
 use native.Mathlib.Omega.{arith}
 use Prim.Native.Nat.{_-_}
-use Rattle.register.proofs.Soundness.{sound-aggregates}
+use Rattle.plants.proofs.Soundness.{sound-aggregates}
 use Rattle.targets.specs.Targets.{memberAt}
 use Rattle.targets.proofs.Walks.{Along, along-none, along-small, along-end, along-out, along-more}
 use Rattle.targets.proofs.target_of.Statement.{statement}
@@ -15,8 +15,8 @@ abbrev μ-loop : tie.MeasureT-loop
 μ-loop aggregate plant kept target₀ unit₀ turns₀ target unit turns = 65 - turns
 
 -- where the chain goes on
-abbrev going : tie.After-plus Inv-loop μ-loop → tie.Else1 Inv-loop μ-loop
-going c = c .before .before .before
+abbrev going : tie.After-plus-arg2 Inv-loop μ-loop → tie.Else1 Inv-loop μ-loop
+going c = c .before .before
 
 no-members-requires : tie.Need-no-members-requires Inv-loop μ-loop
 no-members-requires c κs = search needs
@@ -46,7 +46,7 @@ array-copy-out-plus : tie.Need-array-copy-out-plus Inv-loop μ-loop
 array-copy-out-plus c = omega arith
 
 plus-requires : tie.Need-plus-requires Inv-loop μ-loop
-plus-requires c κs = let inv = c .before .before .before .before .loop .inv in (along-small inv, inv .known .small _ (omega arith))
+plus-requires c κs = let inv = going c .before .before .loop .inv in (along-small inv, inv .known .small _ (omega arith))
 
 element-copy-out-unit-2 : tie.Need-element-copy-out-unit-2 Inv-loop μ-loop
 element-copy-out-unit-2 c = omega arith
@@ -60,7 +60,7 @@ loop-less c = omega arith
 loop-again : tie.Need-loop-again Inv-loop μ-loop
 unfolding memberAt
 loop-again c =
-    let g = going (c .before) in
+    let g = going (c .before .before) in
     along-more (g .before .before .loop .inv) (omega arith) (g .if1 .left) (c .before .plus .ensures)
 
 returns-2 : tie.Need-returns-2 Inv-loop μ-loop

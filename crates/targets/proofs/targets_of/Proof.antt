@@ -5,7 +5,7 @@ use mathlib.Core.Path.{_≡_}
 use Prim.Native.Nat.{_-_, _≤_}
 use Rattle.trace.specs.Sweeps.{sweep}
 use Rattle.trace.proofs.Sweeps.{sweep-none, sweep-more, sweep-end}
-use Rattle.register.proofs.Soundness.{sound-aggregates}
+use Rattle.plants.proofs.Soundness.{sound-aggregates}
 use Rattle.targets.specs.Targets.{keptIn, targetOf}
 use Rattle.targets.proofs.targets_of.Statement.{statement}
 use Rattle.targets.proofs.targets_of.Tie as tie

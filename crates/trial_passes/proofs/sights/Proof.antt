@@ -2,7 +2,7 @@
 use native.Mathlib.Omega.{arith}
 use borrow.Author.Needs.{needs}
 use Prim.Native.Nat.{_-_, _≤_}
-use Rattle.register.proofs.Soundness.{sound-units}
+use Rattle.plants.proofs.Soundness.{sound-units}
 use Rattle.passes.specs.Seen.{seenAt}
 use Rattle.trial_passes.proofs.Small.{SmallSights, sights-none, sights-more}
 use Rattle.trial_passes.proofs.sights.Statement.{statement}
