@@ -2,8 +2,8 @@
 use mathlib.Core.Bool.{Bool, true, false, cond, _||_}
 use lib.Dec.{eqb, ltb}
 use Rattle.response.specs.declared.Day.{Day}
-use Rattle.response.specs.declared.Flag.{Flag}
-use Rattle.response.specs.declared.Flag.the-variants.{None, Under, Over}
+use Rattle.records.specs.declared.Flag.{Flag}
+use Rattle.records.specs.declared.Flag.the-variants.{None, Under, Over}
 use Rattle.ledger.specs.declared.Conduct.{Conduct}
 use Rattle.ledger.specs.declared.Conduct.the-variants.{Undispatched, Conformant, Nonconformant}
 

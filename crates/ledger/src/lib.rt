@@ -10,8 +10,8 @@ ghost use Rattle.ledger.specs.Promises.{Begins};
 use calendar::Date;
 use calendar::Found;
 use calendar::Window;
+use records::Flag;
 use response::Day;
-use response::Flag;
 
 // An instance of non-conformance: the ordinal of the date three months later, and whether a conformant day has come since.
 pub struct Instance {

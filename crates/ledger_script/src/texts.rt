@@ -8,8 +8,8 @@ ghost use Rattle.text.specs.Lines.{rest};
 ghost use Rattle.text.specs.Puts.{Put};
 ghost use Rattle.ledger_script.specs.Texts.{acceptedOf, acceptedText, refusedText, dayText, reinstateText};
 use ledger::Verdict;
+use records::Flag;
 use response::Day;
-use response::Flag;
 
 // Whether the unit is declared, and the end of the line.
 fn put_declared(out: &mut [u8], at: usize, declared: bool) -> usize

@@ -10,10 +10,10 @@ use lib.Dec.{eqb}
 use lib.IntN.{ℤ, pos, negsuc, natAbs, _+ℤ_, _*ℤ_}
 use lib.Signed.{leZ}
 use Rattle.trace.proofs.Sums.{added-nothing, sum-zero}
-use Rattle.response.specs.Intervals.{intervalAt, responseOf, intervalFlag, isUnder, isOver}
+use Rattle.records.specs.Intervals.{intervalAt, responseOf, intervalFlag, isUnder, isOver}
 use Rattle.response.specs.Days.{dispatchedAt, targetSum, flagAt, isHalfOrLess, isThreeHalvesOrMore, dayFlag, dayOf}
-use Rattle.response.specs.Answers.{dayBounded}
-use Rattle.response.specs.declared.Flag.the-variants.{None, Under, Over}
+use Rattle.records.specs.Records.{dayBounded}
+use Rattle.records.specs.declared.Flag.the-variants.{None, Under, Over}
 use Rattle.response.proofs.Flags.{flag-undispatched, flag-under, flag-over}
 use Rattle.response.proofs.Sums.{counted-most, response-most, target-most}
 

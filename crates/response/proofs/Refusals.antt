@@ -8,8 +8,9 @@ use lib.ListN.{length, take, drop}
 use Rattle.trace.specs.Refusals.{firstOf}
 use Rattle.wire.specs.Fields.{wordAt}
 use Rattle.wire.proofs.Laws.{behind}
+use Rattle.records.specs.Records.{isWhole, dayBounded}
 use Rattle.response.specs.Days.{dayOf}
-use Rattle.response.specs.Answers.{isWhole, dayBounded, dayRefusal, answerBy, answerOf, answerNumber, fileRefusal, fileAnswer, Answers}
+use Rattle.response.specs.Answers.{dayRefusal, answerBy, answerOf, answerNumber, fileRefusal, fileAnswer, Answers}
 use Rattle.response.specs.declared.Answer.{Answer}
 use Rattle.response.specs.declared.Answer.the-variants.{Assessed, Refused}
 use Rattle.response.specs.declared.Day.{Day}

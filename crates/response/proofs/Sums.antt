@@ -10,15 +10,15 @@ use lib.Dec.{eqb}
 use lib.IntN.{pos, natAbs, _+ℤ_}
 use Rattle.trace.proofs.Sums.{added-none, added-more, added-size, sum-most, counts-apart}
 use Rattle.signed.proofs.Sizes.{size-plus}
-use Rattle.response.specs.Intervals.{intervalAt, isDispatched, intervalFlag, responseOf, isUnder, isOver}
-use Rattle.response.specs.Days.{dispatchedAt, responseSum, targetSum, targetBefore, flagAt, underCount, overCount}
-use Rattle.response.specs.Answers.{dayBounded}
+use Rattle.records.specs.Intervals.{intervalAt, intervalFlag, responseOf, isUnder, isOver}
+use Rattle.response.specs.Days.{isDispatched, dispatchedAt, responseSum, targetSum, targetBefore, flagAt, underCount, overCount}
+use Rattle.records.specs.Records.{dayBounded}
 use Rattle.response.specs.Totals.{SmallTotals, counted, addDispatched, addInterval, totalsOf}
-use Rattle.response.specs.declared.Flag.{Flag}
-use Rattle.response.specs.declared.Flag.the-variants.{None, Under, Over}
-use Rattle.response.specs.declared.Interval.{Interval}
+use Rattle.records.specs.declared.Flag.{Flag}
+use Rattle.records.specs.declared.Flag.the-variants.{None, Under, Over}
+use Rattle.records.specs.declared.Interval.{Interval}
 use Rattle.response.specs.declared.totals.Totals.{Totals}
-use Rattle.response.proofs.Bounds.{bounded, bounded-at}
+use Rattle.records.proofs.Bounds.{bounded, bounded-at}
 
 -- ---- one interval more
 

@@ -1,30 +1,18 @@
 -- What a day is answered (02, 2026-04: "Refusal 31: not 288 records. Refusal 32: a value beyond its bound. In that order"), and a file
 -- that holds one.
 use mathlib.Core.Path.{_≡_}
-use mathlib.Core.Bool.{Bool, cond, not, _&&_}
+use mathlib.Core.Bool.{Bool, cond, not}
 use mathlib.Core.List.{List, [], _∷_}
-use Prim.Native.Nat.{ℕ, zero, suc, _*_}
-use lib.Dec.{eqb, ltb}
+use Prim.Native.Nat.{ℕ, zero, suc}
+use lib.Dec.{ltb}
 use lib.ListN.{length, drop}
 use Rattle.trace.specs.Refusals.{firstOf}
-use Rattle.trace.specs.Sweeps.{every}
 use Rattle.wire.specs.Fields.{wordAt}
-use Rattle.response.specs.Intervals.{intervalAt, targetBounded, intervalBounded}
-use Rattle.response.specs.Days.{intervals, dayOf}
+use Rattle.records.specs.Records.{isWhole, dayBounded}
+use Rattle.response.specs.Days.{dayOf}
 use Rattle.response.specs.declared.Answer.{Answer}
 use Rattle.response.specs.declared.Answer.the-variants.{Assessed, Refused}
 use Rattle.response.specs.declared.Day.{Day}
-
--- 31: "288 records of 12 bytes"
-abbrev pub isWhole : List ℕ → Bool
-isWhole records = eqb (length records) (12 * intervals)
-
--- 32: every value of the first k records, and the earlier target
-abbrev pub recordsBounded : List ℕ → ℕ → Bool
-recordsBounded records k = every (λ i. intervalBounded (intervalAt records i)) k
-
-abbrev pub dayBounded : ℕ → List ℕ → Bool
-dayBounded earlier records = targetBounded earlier && recordsBounded records intervals
 
 -- the number of the first refusal that applies, 0 where none does
 unfoldable pub dayRefusal : ℕ → List ℕ → ℕ

@@ -1,21 +1,23 @@
 -- A day of 288 intervals (02, 2026-04; 002, section 3.2): both sums, the day's flag, and the counts of flagged intervals.
-use mathlib.Core.Bool.{Bool, cond}
+use mathlib.Core.Bool.{Bool, cond, not}
 use mathlib.Core.List.{List}
 use Prim.Native.Nat.{ℕ, zero, suc, _*_}
 use lib.Dec.{eqb}
 use lib.IntN.{ℤ, pos, _*ℤ_}
 use lib.Signed.{leZ}
 use Rattle.trace.specs.Sums.{sumWhere, wholeSumWhere, countWhere}
-use Rattle.response.specs.Intervals.{intervalAt, isDispatched, responseOf, intervalFlag, isUnder, isOver}
+use Rattle.records.specs.Intervals.{intervalAt, responseOf, intervalFlag, isUnder, isOver}
+use Rattle.records.specs.Records.{intervals}
+use Rattle.records.specs.declared.Interval.{Interval}
+use Rattle.records.specs.declared.Flag.{Flag}
+use Rattle.records.specs.declared.Flag.the-variants.{None, Under, Over}
 use Rattle.response.specs.declared.Day.{Day}
-use Rattle.response.specs.declared.Flag.{Flag}
-use Rattle.response.specs.declared.Flag.the-variants.{None, Under, Over}
-
--- "288 records"
-abbrev pub intervals : ℕ
-intervals = 288
 
 -- ---- "For the day, over records with a nonzero target, with D the sum of BSQ − ME and T the sum of MWB"
+
+-- an interval "in which a WDRU was dispatched": "a nonzero target"
+abbrev pub isDispatched : Interval → Bool
+isDispatched v = not (eqb (v .target) 0)
 
 abbrev pub dispatchedAt : List ℕ → ℕ → Bool
 dispatchedAt records i = isDispatched (intervalAt records i)

@@ -4,9 +4,9 @@ use mathlib.Core.Bool.{Bool, cond}
 use mathlib.Core.List.{List}
 use Prim.Native.Nat.{ℕ, _+_, _≤_, _<_, _^_}
 use lib.IntN.{natAbs, _+ℤ_}
-use Rattle.response.specs.Intervals.{isDispatched, responseOf, intervalFlag, isUnder, isOver}
-use Rattle.response.specs.Days.{responseSum, targetSum, underCount, overCount}
-use Rattle.response.specs.declared.Interval.{Interval}
+use Rattle.records.specs.Intervals.{responseOf, intervalFlag, isUnder, isOver}
+use Rattle.response.specs.Days.{isDispatched, responseSum, targetSum, underCount, overCount}
+use Rattle.records.specs.declared.Interval.{Interval}
 use Rattle.response.specs.declared.totals.Totals.{Totals}
 
 -- small enough for one interval more

@@ -1,28 +1,18 @@
 // A day of wholesale demand response (02, 2026-04; source 002, section 3): its sums, its flag and its counts of flagged intervals, or
 // the number of its refusal. It keeps nothing from one day to the next.
-mod intervals;
 mod totals;
 
 ghost use mathlib.Core.Path.{_≡_};
 ghost use mathlib.Core.Bool.{true};
 ghost use Prim.Native.Nat.{_^_, _<_};
 ghost use lib.IntN.{natAbs};
+ghost use Rattle.records.specs.Records.{isWhole, dayBounded};
 ghost use Rattle.response.specs.Days.{dayFlag, dayOf};
-ghost use Rattle.response.specs.Answers.{isWhole, dayBounded, dayRefusal, answerOf, answerNumber, fileRefusal, fileAnswer, Answers};
+ghost use Rattle.response.specs.Answers.{dayRefusal, answerOf, answerNumber, fileRefusal, fileAnswer, Answers};
+use records::Flag;
 
-// What is flagged: nothing, underdelivery or overdelivery.
-pub enum Flag {
-    None,
-    Under,
-    Over,
-}
-
-// One record: dispatch target MWB in kW, baseline settlement quantity BSQ and metered energy ME in Wh.
-pub(crate) struct Interval {
-    pub target: u32,
-    pub baseline: i32,
-    pub metered: i32,
-}
+// The bytes of a day's records.
+const RECORDS: usize = 3456;
 
 // The result: D in Wh and T in kW over the intervals with a target, the day's flag, and how many intervals are flagged.
 pub struct Day {
@@ -89,10 +79,10 @@ fn assessed(earlier: u32, records: &[u8]) -> Day
 pub fn assess_day(earlier: u32, records: &[u8]) -> Answer
     ensures { λ r. ⌜ Answers (answerOf earlier (now (records .entry))) (dayRefusal earlier (now (records .entry))) r ⌝ }
 {
-    if records.len() != intervals::RECORDS {
+    if records.len() != RECORDS {
         return Answer::Refused(31);
     }
-    if intervals::day_bounded(earlier, records) {
+    if records::day_bounded(earlier, records) {
         return Answer::Assessed(assessed(earlier, records));
     }
     Answer::Refused(32)

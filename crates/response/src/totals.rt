@@ -2,11 +2,10 @@
 ghost use mathlib.Core.Path.{_≡_};
 ghost use mathlib.Core.Bool.{true};
 ghost use Prim.Native.Nat.{_^_, _<_};
-ghost use Rattle.response.specs.Intervals.{intervalBounded};
-ghost use Rattle.response.specs.Answers.{isWhole, dayBounded};
+ghost use Rattle.records.specs.Intervals.{intervalBounded};
+ghost use Rattle.records.specs.Records.{isWhole, dayBounded};
 ghost use Rattle.response.specs.Totals.{SmallTotals, counted, addDispatched, addInterval, totalsOf};
-use crate::Interval;
-use crate::intervals;
+use records::Interval;
 
 // Of the intervals so far: D and T, and how many are flagged.
 pub(crate) struct Totals {
@@ -64,8 +63,8 @@ pub(crate) fn sum_up(earlier: u32, records: &[u8]) -> Totals
     };
     let mut before = earlier;
     let mut i: usize = 0;
-    while i < intervals::INTERVALS {
-        let v = intervals::interval_at(records, i);
+    while i < records::INTERVALS {
+        let v = records::interval_at(records, i);
         totals = totals.plus(before, v);
         before = v.target;
         i += 1;

@@ -7,8 +7,8 @@ use Rattle.response.specs.Answers.{fileAnswer}
 use Rattle.response.specs.declared.Answer.{Answer}
 use Rattle.response.specs.declared.Answer.the-variants.{Assessed, Refused}
 use Rattle.response.specs.declared.Day.{Day}
-use Rattle.response.specs.declared.Flag.{Flag}
-use Rattle.response.specs.declared.Flag.the-variants.{None, Under, Over}
+use Rattle.records.specs.declared.Flag.{Flag}
+use Rattle.records.specs.declared.Flag.the-variants.{None, Under, Over}
 
 abbrev pub flagText : Flag → List ℕ
 flagText None = ascii "none"

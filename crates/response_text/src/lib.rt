@@ -5,9 +5,9 @@ ghost use lib.ListN.{length};
 ghost use Rattle.text.specs.Lines.{dayLineOf};
 ghost use Rattle.text.specs.Puts.{Put};
 ghost use Rattle.response_text.specs.Texts.{dayText, answerText, fileText};
+use records::Flag;
 use response::Answer;
 use response::Day;
-use response::Flag;
 
 // Room for any line.
 pub fn room() -> [u8; 64]

@@ -2,7 +2,7 @@
 use borrow.Author.Tests.{eq-eqb, ne-eqb}
 use mathlib.Core.Path.{_≡_, sym, _∙_}
 use mathlib.Core.Bool.{true}
-use Rattle.response.specs.Answers.{isWhole, dayBounded}
+use Rattle.records.specs.Records.{isWhole, dayBounded}
 use Rattle.response.proofs.Refusals.{not-whole, beyond, assessed-day}
 use Rattle.response.proofs.assess_day.Statement.{statement}
 use Rattle.response.proofs.assess_day.Tie as tie

@@ -6,7 +6,7 @@ use native.Mathlib.Omega.{arith}
 use borrow.Author.Needs.{needs}
 use Rattle.response.specs.Days.{targetBefore}
 use Rattle.response.specs.Totals.{SmallTotals, totalsOf}
-use Rattle.response.proofs.Bounds.{record-in, bounded-at}
+use Rattle.records.proofs.Bounds.{record-in, bounded-at}
 use Rattle.response.proofs.Sums.{totals-none, totals-more, before-more, totals-small}
 use Rattle.response.proofs.totals.sum_up.Statement.{statement}
 use Rattle.response.proofs.totals.sum_up.Tie as tie

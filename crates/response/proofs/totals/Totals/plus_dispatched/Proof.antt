@@ -8,7 +8,7 @@ use mir.Val.{toZ, ofZ}
 use Rattle.signed.proofs.Sizes.{held-size}
 use Rattle.signed.proofs.Results.{result64}
 use Rattle.response.specs.Totals.{addDispatched}
-use Rattle.response.proofs.Bounds.{bounded}
+use Rattle.records.proofs.Bounds.{bounded}
 use Rattle.response.proofs.totals.Totals.plus_dispatched.Statement.{statement}
 use Rattle.response.proofs.totals.Totals.plus_dispatched.Tie as tie
 

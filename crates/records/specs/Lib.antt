@@ -1,0 +1,3 @@
+-- The words of the crate's contracts.
+pub mod Intervals
+pub mod Records
