@@ -1,6 +1,6 @@
 -- How large the numbers of a line, of a kept line and of a basis are. A readable line's are within 01's bounds, and an aggregate has at most 65
 -- of them.
-use Prim.Native.Nat.{ℕ, _≤_}
+use Prim.Native.Nat.{_≤_}
 use lib.IntN.{natAbs}
 use Rattle.telemetry.specs.declared.Fields.{Fields}
 use Rattle.telemetry.specs.declared.Line.{Line}
