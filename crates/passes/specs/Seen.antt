@@ -1,5 +1,5 @@
 -- What is seen of the units, in a list by place, a unit's number less one. The pass promises its answer for the members as they stand in
--- this list; `pass-in` of `monitor/proofs/Surveys.antt` shows that in an interval these are the members as its definitions see them.
+-- this list; `pass-in` of `intervals/proofs/Surveys.antt` shows that in an interval these are the members as its definitions see them.
 use mathlib.Core.Path.{_≡_}
 use mathlib.Core.Bool.{true, false}
 use mathlib.Core.List.{List, map}

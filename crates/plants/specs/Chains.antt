@@ -13,7 +13,7 @@ chain next zero unit = []
 chain next (suc steps) zero = []
 chain next (suc steps) (suc i) = suc i ∷ chain next steps (getD next i 0)
 
--- a chain that is followed to its end, as every chain of an accepted register is (`members-chain` of `proofs/Accepted.antt`)
+-- a chain that is followed to its end, as every chain of an accepted register is (`members-chain` of `register/proofs/Accepted.antt`)
 pub data Chain (next : List ℕ) : ℕ → List ℕ → Type 0 where
   ended : Chain next 0 []
   through : {i : ℕ} {rest : List ℕ} → Chain next (getD next i 0) rest → Chain next (suc i) (suc i ∷ rest)
