@@ -5,13 +5,13 @@
     make_calls.py --check   writes nothing; exit 1 where a file differs from what would be written, or where the lines of the
                             group that two lists share, `alike_1` and `alike_2` among them, are not equal
 
-Every expected line is worked out by hand from 01, for kind 4 from 02, 2026-01, for levels from 02, 2026-02, for reasons from 02,
-2026-06, and for targets from 02, 2026-07; nothing here computes a mark, a level, a reason or a sum over members, and no monitor is
-run. A step of a list is a call's bytes and the lines that it prints. A point's line is interval, point, status (0 Normal,
-1 Off-Target, 2 Not-Responding, 3 NC-Pending, 4 Non-Conforming), mark (0 OFF, 1 BLANK, 2 CLEAR, 3 DOUBT, 4 SMALL, 5 LARGE), small
-run, large run, error, small trigger, level. A reason is small, large or operator, then the numbers of the first mark counted in
-that run and of the declaring mark. A target is the sum of MWB, loads subtracted, then those of FCR and of FCL, over the members
-that have a kept line, and then 1 where every member has one, 0 otherwise.
+Every expected line is worked out by hand from 01, for kind 4 from 02, 2026-01, for levels from 02, 2026-02, for reasons from
+02, 2026-06, and for targets from 02, 2026-07; 02, 2026-08 changes none of them. Nothing here computes a mark, a level, a reason
+or a sum over members, and no monitor is run. A step of a list is a call's bytes and the lines that it prints. A point's line is
+interval, point, status (0 Normal, 1 Off-Target, 2 Not-Responding, 3 NC-Pending, 4 Non-Conforming), mark (0 OFF, 1 BLANK, 2
+CLEAR, 3 DOUBT, 4 SMALL, 5 LARGE), small run, large run, error, small trigger, level. A reason is small, large or operator, then
+the numbers of the first mark counted in that run and of the declaring mark. A target is the sum of MWB, loads subtracted, then
+those of FCR and of FCL, over the members that have a kept line, and then 1 where every member has one, 0 otherwise.
 
 tests/calls/alike_*/group has the numbers of the output's lines that belong to the group, one a line. Two lists that are alike
 have one name but for its end, _1 and _2.
@@ -2857,6 +2857,459 @@ def target_asked_in_chains():
     return [each for step, answer in zip(steps, answers, strict=True) for each in (step, *targets(10, answer, answer, answer))]
 
 
+# ---- members side by side
+
+
+def chained(kinds, *chains):
+    """The register of units of these kinds, with these chains of unit numbers."""
+    following = {unit: after for chain in chains for unit, after in zip(chain, chain[1:])}
+    units = [(kind, following.get(unit, 0)) for unit, kind in enumerate(kinds, 1)]
+    return register(LENGTHS, units, [chain[0] for chain in chains])
+
+
+def each_point(number, lines, usual, others):
+    """An accepted interval, automatic. What is printed of each point: `usual`, unless `others` has another text of that point."""
+    texts = [others.get(point, text) for point, text in enumerate(usual, 1)]
+    return accepted(interval(number, AUTOMATIC, *lines), *numbered(number, texts))
+
+
+def side_by_side_orders():
+    """The same plant three times, but for the order of its chain: up, down, and any. Units 1 and 6 generate, 2 and 5 are loads, 3
+    is bidirectional; generating unit 4 in no chain. The aggregate is point 7.
+
+    Own triggers of units 1 to 5: 3 x and 5 x MWO are at most 600,000, so both are 600,000. Unit 6: small max(600,000,
+    min(1,200,000, 400,000)), large max(600,000, min(2,000,000, 800,000)) = 800,000.
+
+    The aggregate: MWO max(100,000 + 120,000 + 400,000, 50,000 + 90,000) = 620,000, so 1,860,000 and 3,100,000. ROC with the
+    target above: max(3,000 + 5,000 + 2,000, 2,000 + 6,000) = 10,000, below: max(4,000 + 3,000 + 2,000, 2,000 + 1,000) = 9,000,
+    equal: max(3,000 + 3,000 + 2,000, 2,000 + 1,000) = 8,000. Small trigger 1,860,000 above, 1,800,000 below, 1,600,000 equal;
+    large 3,100,000 in all three.
+    """
+    kinds = GENERATING, LOAD, BIDIRECTIONAL, GENERATING, LOAD, GENERATING
+    limits_of = {1: (100_000, 3, 4), 2: (50_000, 2, 2), 3: (120_000, 5, 3), 5: (90_000, 1, 6), 6: (400_000, 2, 2)}
+    none, on = "0 1 0 0 0 0 0", "0 2 0 0 0 600000 0"
+
+    def at(number, others, **members):
+        """Of a member its MW, MWB, FCR and FCL, and a quality if it is not good."""
+        lines = []
+        for unit in range(1, 7):
+            if unit == 4:
+                lines.append(plain(100.0))
+                continue
+            mw, mwb, fcr, fcl, *quality = members[f"_{unit}"]
+            mwo, up, down = limits_of[unit]
+            lines.append(line(mw, mwb=mwb, mwo=mwo, fcr=fcr, fcl=fcl, bid=(1_000 * up, 1_000 * down), scada=(up, down), mode=2,
+                              quality=quality[0] if quality else 0))
+        return each_point(number, lines, [on] * 7, others)
+
+    same = [
+        *targets(7, "0 0 0 0"),
+        at(1, {point: none for point in range(1, 8)},
+           _1=(0.0, 100_000, 1_000, 200), _2=(0.0, 40_000, 20, 3_000), _3=(0.0, -30_000, 100, 7), _5=(0.0, 20_000, 3, 40),
+           _6=(0.0, 200_000, 500, 600)),
+        # 100,000 - 40,000 - 30,000 - 20,000 + 200,000; 1,000 + 20 + 100 + 3 + 500; 200 + 3,000 + 7 + 40 + 600.
+        *targets(7, "210000 1623 3847 1"),
+        # Unit 6: 230,000 - 200,500, LARGE. Point 7: 100,000 - 40,000 - 30,000 - 20,000 + 230,000 = 240,000 against 211,623; the
+        # target, 205,000, is below: 2,837,700 is SMALL.
+        at(2, {6: "1 5 1 1 29500 600000 0", 7: "1 4 1 0 28377 1800000 0"},
+           _1=(100.0, 90_000, 0, 0), _2=(40.0, 10_000, 5, 6), _3=(-30.0, 50_000, 7, 8), _5=(20.0, 70_000, 9, 10),
+           _6=(230.0, 145_000, 11, 12)),
+        # 90,000 - 10,000 + 50,000 - 70,000 + 145,000; 0 + 5 + 7 + 9 + 11; 0 + 6 + 8 + 10 + 12.
+        *targets(7, "205000 32 36 1"),
+        # Unit 3: -(49,992 - 30,000), LARGE. Point 7: 90,000 - 10,000 + 30,000 - 70,000 + 145,000 = 185,000 against 204,964; the
+        # target, 375,000, is above: 1,996,400 is SMALL.
+        at(3, {3: "1 5 1 1 -19992 600000 0", 7: "2 4 2 0 -19964 1860000 0"},
+           _1=(90.0, 120_000, 1, 2), _2=(10.0, 30_000, 3, 4), _3=(30.0, -10_000, 5, 6), _5=(70.0, 5_000, 7, 8),
+           _6=(145.0, 300_000, 9, 10)),
+        # 120,000 - 30,000 - 10,000 - 5,000 + 300,000; 1 + 3 + 5 + 7 + 9; 2 + 4 + 6 + 8 + 10.
+        *targets(7, "375000 25 30 1"),
+        # Unit 2, a load: 47,000 - 30,004, LARGE. Point 7: 120,000 - 47,000 - 10,000 - 5,000 + 300,000 = 358,000 against 374,970;
+        # the target is 358,000 too: 1,697,000 is SMALL, which it is with this trigger alone.
+        at(4, {2: "1 5 1 1 16996 600000 0", 7: "3 4 3 0 -16970 1600000 0"},
+           _1=(120.0, 100_000, 10, 20), _2=(47.0, 40_000, 30, 40), _3=(-10.0, -2_000, 50, 60), _5=(5.0, 50_000, 70, 80),
+           _6=(300.0, 350_000, 90, 100)),
+        # 100,000 - 40,000 - 2,000 - 50,000 + 350,000; 10 + 30 + 50 + 70 + 90; 20 + 40 + 60 + 80 + 100.
+        *targets(7, "358000 250 300 1"),
+        # Unit 3 cannot be read, third in the chain up and down and first in the other order. The run stands.
+        at(5, {3: none, 7: "3 1 3 0 0 0 0"},
+           _1=(100.0, 60_000, 1_000, 2_000), _2=(40.0, 25_000, 3, 4), _3=(0.0, 999, 99, 9, 3), _5=(50.0, 15_000, 5, 6),
+           _6=(350.0, 70_000, 7, 8)),
+        # 60,000 - 25,000 - 15,000 + 70,000; 1,000 + 3 + 5 + 7; 2,000 + 4 + 6 + 8.
+        *targets(7, "90000 1015 2018 0"),
+        # Units 1 and 6 cannot be read, the first and the last up and down; nothing is kept for 3.
+        at(6, {1: none, 3: none, 6: none, 7: "3 1 3 0 0 0 0"},
+           _1=(60.0, 999, 99, 9, 3), _2=(25.0, 11_000, 1, 2), _3=(0.0, 4_000, 3, 4), _5=(15.0, 5_000, 5, 6),
+           _6=(70.0, 999, 99, 9, 3)),
+        # -11,000 + 4,000 - 5,000; 1 + 3 + 5; 2 + 4 + 6.
+        *targets(7, "-12000 9 12 0"),
+        at(7, {1: none, 6: none, 7: "3 1 3 0 0 0 0"},
+           _1=(0.0, 100_000, 0, 0), _2=(11.0, 40_000, 0, 0), _3=(4.0, 10_000, 0, 0), _5=(5.0, 20_000, 0, 0),
+           _6=(0.0, 100_000, 0, 0)),
+        # 100,000 - 40,000 + 10,000 - 20,000 + 100,000.
+        *targets(7, "150000 0 0 1"),
+        (look(7), "look accepted 3 3 0 0"),
+        # Unit 1: 140,000 - 100,000, LARGE. Point 7: 140,000 - 40,000 + 10,000 - 20,000 + 100,000 = 190,000 against 150,000, LARGE;
+        # small run 4, declared.
+        at(8, {1: "1 5 1 1 40000 600000 0", 7: "4 5 0 0 40000 1800000 190000"},
+           _1=(140.0, 100_000, 0, 0), _2=(40.0, 40_000, 0, 0), _3=(10.0, 10_000, 0, 0), _5=(20.0, 20_000, 0, 0),
+           _6=(100.0, 100_000, 0, 0)),
+        *targets(7, "150000 0 0 1"),
+        (look(7), "look accepted 4 0 0 190000"),
+        (reason(7), "reason accepted small 2 8"),
+    ]
+    orders = (1, 2, 3, 5, 6), (6, 5, 3, 2, 1), (3, 6, 1, 5, 2)
+    return [step for order in orders for step in [(load(chained(kinds, order)), "load accepted 5"), *same]]
+
+
+# Nine units; FCR and FCL of each, and its MWB, twice those of the one before, so that no two sets of units have the same sums.
+# Chain 5 -> 1 -> 3 (bidirectional unit, generating unit, load) is point 10, chain 2 -> 6 -> 4 (generating units, load) point 11,
+# chain 9 -> 8 (generating unit, load) point 12; generating unit 7 in no chain. Their flat list: 5 1 3, 2 6 4, 9 8.
+INTERLEAVED = chained((GENERATING, GENERATING, LOAD, LOAD, BIDIRECTIONAL, GENERATING, GENERATING, LOAD, GENERATING),
+                      (5, 1, 3), (2, 6, 4), (9, 8))
+DOUBLED = {1: (1_000, 1, 10), 2: (2_000, 2, 20), 3: (4_000, 4, 40), 4: (8_000, 8, 80), 5: (16_000, 16, 160), 6: (32_000, 32, 320),
+           7: (64_000, 64, 640), 8: (128_000, 128, 1_280), 9: (256_000, 256, 2_560)}
+# 16,000 + 1,000 - 4,000; 16 + 1 + 4; 160 + 10 + 40. 2,000 + 32,000 - 8,000; 2 + 32 + 8; 20 + 320 + 80. 256,000 - 128,000;
+# 256 + 128; 2,560 + 1,280.
+OF_INTERLEAVED = "13000 21 210 1", "26000 42 420 1", "128000 384 3840 1"
+
+
+def doubled(unit, over=0.0, **changes):
+    """A line of DOUBLED, so many MW over its target; triggers as `plain` says. In a chain, unless a mode is given."""
+    mwb, fcr, fcl = DOUBLED[unit]
+    return aimed(mwb / 1_000 + over, mwb, fcr, fcl, **({"mode": 2} | changes))
+
+
+def side_by_side_interleaved():
+    """INTERLEAVED: each unit in turn is the only one beyond its target, then each in turn the only one that cannot be read.
+
+    Points 10 and 11: MWO max(200,000, 100,000), ROC max(6,000, 3,000): small trigger 600,000, large 1,000,000. Point 12: MWO and
+    ROC of one unit on either side, 600,000 and 600,000. All rates are the same, so the direction does not matter.
+    """
+    none, on = "0 1 0 0 0 0 0", "0 2 0 0 0 600000 0"
+
+    def at(number, others, unit=0, **changes):
+        """changes: what the line of this unit has other than `doubled`."""
+        lines = [doubled(each, **({"mode": 0 if each == 7 else 2} | (changes if each == unit else {}))) for each in range(1, 10)]
+        return each_point(number, lines, [on] * 12, others)
+
+    def large(error):
+        return f"1 5 1 1 {error} 600000 0"
+
+    # 20,000 over. A unit: less FCR, a load: less FCL. Its aggregate: less the sum of FCR, or, for a load, -(20,000 less that of
+    # FCL).
+    beyond = [
+        (2, 5, {5: large(19_984), 10: large(19_979)}),
+        (3, 2, {2: large(19_998), 11: large(19_958)}),
+        (4, 1, {1: large(19_999), 10: large(19_979)}),
+        (5, 6, {6: large(19_968), 11: large(19_958)}),
+        (6, 3, {3: large(19_960), 10: large(-19_790)}),
+        (7, 4, {4: large(19_920), 11: large(-19_580)}),
+        (8, 9, {9: large(19_744), 12: large(19_616)}),
+        (9, 7, {7: large(19_936)}),
+        (10, 8, {8: large(18_720), 12: large(-16_160)}),
+    ]
+    a, b, c = OF_INTERLEAVED
+    # The unit that cannot be read; points that are BLANK, for it or for the one before it, for which nothing is kept; the targets.
+    unread = [
+        (11, 5, (5, 10), ("-3000 5 50 0", b, c)),  # 1,000 - 4,000; 1 + 4
+        (12, 2, (5, 10, 2, 11), (a, "24000 40 400 0", c)),  # 32,000 - 8,000; 32 + 8
+        (13, 1, (2, 11, 1, 10), ("12000 20 200 0", b, c)),  # 16,000 - 4,000; 16 + 4
+        (14, 6, (1, 10, 6, 11), (a, "-6000 10 100 0", c)),  # 2,000 - 8,000; 2 + 8
+        (15, 3, (6, 11, 3, 10), ("17000 17 170 0", b, c)),  # 16,000 + 1,000; 16 + 1
+        (16, 4, (3, 10, 4, 11), (a, "34000 34 340 0", c)),  # 2,000 + 32,000; 2 + 32
+        (17, 9, (4, 11, 9, 12), (a, b, "-128000 128 1280 0")),
+        (18, 8, (9, 12, 8), (a, b, "256000 256 2560 0")),
+        (19, 7, (8, 12, 7), (a, b, c)),
+    ]
+    steps = [
+        (load(INTERLEAVED), "load accepted 8"),
+        *targets(10, *["0 0 0 0"] * 3),
+        at(1, {point: none for point in range(1, 13)}),
+        *targets(10, a, b, c),
+    ]
+    for number, unit, others in beyond:
+        steps += [at(number, others, unit, over=20.0), *targets(10, a, b, c)]
+    for number, unit, blank, answers in unread:
+        steps += [at(number, {point: none for point in blank}, unit, quality=3), *targets(10, *answers)]
+    return [
+        *steps,
+        at(20, {7: none}),
+        *targets(10, a, b, c),
+        *looks(*["0 0 0 0"] * 12),
+        refused("target", 10, target(7), target(13)),
+    ]
+
+
+def side_by_side_ends():
+    """INTERLEAVED: the first or the last of a stretch is the only one with conformance mode 2, substituted or bad. Triggers as
+    `side_by_side_interleaved` says."""
+    none, off, on = "0 1 0 0 0 0 0", "0 0 0 0 0 0 0", "0 2 0 0 0 600000 0"
+    members = 1, 2, 3, 4, 5, 6, 8, 9
+
+    def at(number, others, changes=None):
+        """changes: by unit, what its line has other than `doubled`."""
+        lines = [doubled(unit, **({"mode": 0 if unit == 7 else 2} | (changes or {}).get(unit, {}))) for unit in range(1, 10)]
+        return each_point(number, lines, [on] * 12, others)
+
+    def modes(number, *units, all_off=()):
+        """These units alone have mode 2, the other members mode 0."""
+        others = [unit for unit in members if unit not in units]
+        return at(number, {point: off for point in (*others, *all_off)}, {unit: {"mode": 0} for unit in others})
+
+    over = {"over": 20.0}
+    unsure, bad = {"quality": SUBSTITUTED}, {"quality": BAD}
+    return [
+        (load(INTERLEAVED), "load accepted 8"),
+        at(1, {point: none for point in range(1, 13)}),
+        # Not all modes are 0: CLEAR. Where they are: OFF. The heads alone, the last ones alone, and of one chain alone.
+        modes(2, 5, 2, 9),
+        modes(3, 3, 4, 8),
+        modes(4, 5, 8, all_off=(11,)),
+        modes(5, 3, 9, all_off=(11,)),
+        modes(6, 2, all_off=(10, 12)),
+        modes(7, 4, all_off=(10, 12)),
+        modes(8, all_off=(10, 11, 12)),
+        # Units 1, 6 and 9 are 20,000 over: LARGE. The first of each stretch is substituted: of 10 and 11 at its target, CLEAR, and
+        # its aggregate DOUBT; of 12 itself DOUBT.
+        at(9, {1: "1 5 1 1 19999 600000 0", 6: "1 5 1 1 19968 600000 0", 9: "0 3 0 0 19744 600000 0",
+               10: "0 3 0 0 19979 600000 0", 11: "0 3 0 0 19958 600000 0", 12: "0 3 0 0 19616 600000 0"},
+           {1: over, 6: over, 9: over | unsure, 5: unsure, 2: unsure}),
+        # The last of each stretch.
+        at(10, {1: "2 5 2 2 19999 600000 0", 6: "2 5 2 2 19968 600000 0", 9: "1 5 1 1 19744 600000 0",
+                10: "0 3 0 0 19979 600000 0", 11: "0 3 0 0 19958 600000 0", 12: "0 3 0 0 19616 600000 0"},
+           {1: over, 6: over, 9: over, 3: unsure, 4: unsure, 8: unsure}),
+        # That of 10 alone, then of 11 alone: the neighbour is LARGE.
+        at(11, {1: "3 5 3 3 19999 600000 0", 6: "3 5 3 3 19968 600000 0",
+                10: "0 3 0 0 19979 600000 0", 11: "1 5 1 1 19958 600000 0"}, {1: over, 6: over, 3: unsure}),
+        at(12, {1: "4 5 0 0 19999 600000 21000", 6: "4 5 0 0 19968 600000 52000",
+                10: "1 5 1 1 19979 600000 0", 11: "1 3 1 1 19958 600000 0"}, {1: over, 6: over, 4: unsure}),
+        # The first of 11 alone, then the first of 12 alone, which is 8's neighbour.
+        at(13, {1: "4 5 0 0 19999 600000 21000", 6: "4 5 0 0 19968 600000 52000",
+                10: "2 5 2 2 19979 600000 0", 11: "1 3 1 1 19958 600000 0"}, {1: over, 6: over, 2: unsure}),
+        at(14, {1: "4 5 0 0 19999 600000 21000", 6: "4 5 0 0 19968 600000 52000",
+                10: "3 5 3 3 19979 600000 0", 11: "2 5 2 2 19958 600000 0"}, {1: over, 6: over, 9: unsure}),
+        # Bad, with the lines kept: BLANK, with its aggregate. The first ones, the last ones, one alone.
+        at(15, {1: "4 2 0 0 0 600000 21000", 6: "4 2 0 0 0 600000 52000", 5: none, 2: none, 9: none,
+                10: "3 1 3 3 0 0 0", 11: "2 1 2 2 0 0 0", 12: none}, {5: bad, 2: bad, 9: bad}),
+        *targets(10, *OF_INTERLEAVED),
+        at(16, {1: "4 2 0 0 0 600000 21000", 6: "4 2 0 0 0 600000 52000", 3: none, 4: none, 8: none,
+                10: "3 1 3 3 0 0 0", 11: "2 1 2 2 0 0 0", 12: none}, {3: bad, 4: bad, 8: bad}),
+        *targets(10, *OF_INTERLEAVED),
+        at(17, {1: "4 2 0 0 0 600000 21000", 6: "4 2 0 0 0 600000 52000", 2: none, 11: "2 1 2 2 0 0 0"}, {2: bad}),
+        # 10 was cleared at 17. Unit 1 over once more: its aggregate has a run of 1.
+        at(18, {1: "4 5 0 0 19999 600000 21000", 6: "4 2 0 0 0 600000 52000", 4: none, 10: "1 5 1 1 19979 600000 0",
+                11: "2 1 2 2 0 0 0"}, {1: over, 4: bad}),
+        *targets(10, *OF_INTERLEAVED),
+        *looks("4 0 0 21000", *["0 0 0 0"] * 4, "4 0 0 52000", *["0 0 0 0"] * 3, "1 1 1 0", "2 2 2 0", "0 0 0 0"),
+    ]
+
+
+def side_by_side_single():
+    """17 units; 16 chains of one unit each, heads from 17 down to 1 without 9, which stands in no chain: points 18 to 33.
+
+    Kinds 1, 2 and 3 by turns. An aggregate of one generating or bidirectional unit has that unit's error, trigger and level; of one
+    load its error and its level with the other sign, as its sums are subtracted and FCR is up there, and the same trigger. Its
+    mark is the unit's, but for conformance mode 1. Triggers as `wide` says.
+    """
+    kinds = [GENERATING, LOAD, BIDIRECTIONAL] * 5 + [GENERATING, LOAD]
+    kinds[8] = GENERATING  # unit 9
+    heads = 17, 16, 15, 14, 13, 12, 11, 10, 8, 7, 6, 5, 4, 3, 2, 1  # of points 18 to 33
+    none, off, on = ("0 1 0 0 0 0 0",) * 4, ("0 0 0 0 0 0 0",) * 4, ("0 2 0 0 0 600000 0",) * 4
+
+    # What is printed at each of four intervals with the same lines.
+    def small(error, level):
+        return (f"1 4 1 0 {error} 600000 0", f"2 4 2 0 {error} 600000 0", f"3 4 3 0 {error} 600000 0",
+                f"4 4 0 0 {error} 600000 {level}")
+
+    def large(error, level):
+        return (f"1 5 1 1 {error} 600000 0", f"2 5 2 2 {error} 600000 0", f"3 5 3 3 {error} 600000 0",
+                f"4 5 0 0 {error} 600000 {level}")
+
+    def always(text):
+        return (text,) * 4
+
+    # MW, MWB, FCR, FCL, what else the line has; of the unit and of its aggregate.
+    table = [
+        (18.0, 10_000, 1_000, 2_000, {}, small(7_000, 18_000), small(7_000, 18_000)),  # 18,000 - 11,000
+        (29.0, 20_000, 1_000, 2_000, {}, small(7_000, 29_000), small(-7_000, -29_000)),  # 29,000 - 22,000
+        (-39.0, -30_000, 1_000, 2_000, {}, small(-7_000, -39_000), small(-7_000, -39_000)),  # -(-32,000 + 39,000)
+        (51.0, 40_000, 0, 0, {}, large(11_000, 51_000), large(11_000, 51_000)),
+        (39.0, 50_000, 500, 0, {}, large(-10_500, 39_000), large(10_500, -39_000)),  # -(49,500 - 39,000)
+        (60.0, 60_000, 7, 70, {}, on, on),
+        (81.0, 70_000, 0, 5, {"quality": SUBSTITUTED}, always("0 3 0 0 11000 600000 0"), always("0 3 0 0 11000 600000 0")),
+        (80.0, 80_000, 9, 0, {"mode": 1}, off, on),  # mode 1: OFF; not all modes are 0
+        (101.0, 90_000, 0, 0, {"mode": 0}, large(11_000, 101_000), None),  # in no chain
+        (150.0, 100_000, 3, 4, {"mode": 0}, off, off),
+        (0.0, 110_000, 5, 6, {"quality": BAD}, none, none),
+        (-111.0, -120_000, 0, 0, {}, small(9_000, -111_000), small(9_000, -111_000)),
+        (130.0, 130_000, 8, 9, {"quality": 3}, none, none),  # unreadable
+        (154.0, 140_000, 3_000, 4_000, {}, small(10_000, 154_000), small(-10_000, -154_000)),  # 1,000,000 is not greater
+        (6.0, 0, 0, 0, {}, always("0 2 0 0 6000 600000 0"), always("0 2 0 0 6000 600000 0")),  # 600,000 is not greater
+        (180.0, 160_000, 0, 0, {"mode": 1}, off, large(20_000, 180_000)),
+        (150.0, 170_000, 0, 0, {}, large(-20_000, 150_000), large(20_000, -150_000)),
+    ]
+
+    def told(thirteen):
+        return targets(18, "-170000 0 0 1", "160000 0 0 1", "0 0 0 1", "-140000 3000 4000 1", thirteen, "-120000 0 0 1",
+                       "-110000 5 6 1", "100000 3 4 1", "-80000 9 0 1", "70000 0 5 1", "60000 7 70 1", "-50000 500 0 1",
+                       "40000 0 0 1", "-30000 1000 2000 1", "-20000 1000 2000 1", "10000 1000 2000 1")
+
+    first = [wide(0.0, mwb=mwb, fcr=fcr, fcl=fcl, mode=0 if unit == 9 else 2)
+             for unit, (_, mwb, fcr, fcl, *_) in enumerate(table, 1)]
+    later = [wide(mw, **({"mwb": mwb, "fcr": fcr, "fcl": fcl, "mode": 2} | changes)) for mw, mwb, fcr, fcl, changes, *_ in table]
+    steps = [
+        (load(chained(kinds, *[(head,) for head in heads])), "load accepted 16"),
+        *targets(18, *["0 0 0 0"] * 16),
+        accepted(interval(1, AUTOMATIC, *first), *numbered(1, [none[0]] * 33)),
+        *told("130000 8 9 1"),
+    ]
+    for place in range(4):
+        texts = [of_unit[place] for *_, of_unit, _ in table] + [table[head - 1][-1][place] for head in heads]
+        steps += [accepted(interval(2 + place, AUTOMATIC, *later), *numbered(2 + place, texts)), *told("0 0 0 0")]
+    declared = {1: 18_000, 2: 29_000, 3: -39_000, 4: 51_000, 5: 39_000, 9: 101_000, 12: -111_000, 14: 154_000, 17: 150_000,
+                18: -150_000, 19: 180_000, 21: -154_000, 23: -111_000, 29: -39_000, 30: 51_000, 31: -39_000, 32: -29_000,
+                33: 18_000}
+    return [
+        *steps,
+        *looks(*[f"4 0 0 {declared[point]}" if point in declared else "0 0 0 0" for point in range(1, 34)]),
+        # The first chain's run, the last chain's, and one between that has no run.
+        (reason(18), "reason accepted large 2 5"),
+        (reason(33), "reason accepted small 2 5"),
+        refused("reason", 36, reason(28)),
+        refused("target", 10, target(17), target(34)),
+    ]
+
+
+def side_by_side_regrouped():
+    """Seven units, in one register after another in other chains; refused loads between. Nothing of an earlier list shows.
+
+    Kinds 1 to 7: generating unit, load, bidirectional unit, generating unit, load, bidirectional unit, generating unit. Lines of
+    DOUBLED: a set of units has its own sums. A unit that is 20,000 over has that less FCR as its error, a load less FCL.
+    """
+    kinds = [GENERATING, LOAD, BIDIRECTIONAL, GENERATING, LOAD, BIDIRECTIONAL, GENERATING]
+    none, off, on = "0 1 0 0 0 0 0", "0 0 0 0 0 0 0", "0 2 0 0 0 600000 0"
+
+    def at(number, alone, usual, others, changes=None):
+        """alone: units in no chain, mode 0; usual: of the aggregates; changes: by unit."""
+        lines = [doubled(unit, **({"mode": 0 if unit in alone else 2} | (changes or {}).get(unit, {}))) for unit in range(1, 8)]
+        return each_point(number, lines, [*[on] * 7, *usual], others)
+
+    def nothing(number, alone, aggregates):
+        """Nothing kept: all BLANK."""
+        return at(number, alone, [none] * aggregates, {point: none for point in range(1, 8)})
+
+    def large(run, error, trigger=600_000):
+        return f"{run} 5 {run} {run} {error} {trigger} 0"
+
+    over, unreadable = {"over": 20.0}, {"quality": 3}
+    earlier = (1, 2, 3), (4, 5), (6,)
+
+    def broken(changed=None, *, kind=None):
+        """The chains of the first register, with another next or another kind of one unit."""
+        out = bytearray(chained(kinds, *earlier))
+        for unit, following in (changed or {}).items():
+            out[16 + 4 * (unit - 1) + 1] = following
+        for unit, other in (kind or {}).items():
+            out[16 + 4 * (unit - 1)] = other
+        return load(bytes(out))
+
+    refusals = [
+        refused("load", 6, broken({3: 1}), broken({6: 4})),  # a loop; a chain into another
+        refused("load", 7, broken({7: 7})),  # no chain met unit 7
+        refused("load", 30, broken(kind={6: SEMI_SCHEDULED}), broken(kind={1: SEMI_SCHEDULED})),
+        refused("load", 5, broken({7: 8})),
+        refused("load", 1, load(chained(kinds, *earlier)[:-1])),
+    ]
+    three = [on] * 3
+    steps = [
+        # 1 2 3, 4 5 and 6: points 8, 9 and 10; 7 in no chain. 8: 1,000 - 2,000 + 4,000; 9: 8,000 - 16,000. Triggers: 600,000, as
+        # no side has more than two units, 3 x 200,000; the large one of 8 is 1,000,000.
+        (load(chained(kinds, *earlier)), "load accepted 6"),
+        nothing(10, (7,), 3),
+        *targets(8, "3000 7 70 1", "-8000 24 240 1", "32000 32 320 1"),
+        at(11, (7,), three, {3: large(1, 19_996), 8: large(1, 19_993)}, {3: over}),
+        at(12, (7,), three, {3: large(2, 19_996), 8: large(2, 19_993)}, {3: over}),
+        *targets(8, "3000 7 70 1", "-8000 24 240 1", "32000 32 320 1"),
+        *looks("0 0 0 0", "0 0 0 0", "2 2 2 0", *["0 0 0 0"] * 4, "2 2 2 0", "0 0 0 0", "0 0 0 0"),
+        # 6 4, 5 1 2 and 3 7: as many points, other stretches. 8: 32,000 + 8,000; 9: -16,000 + 1,000 - 2,000; 10: 4,000 + 64,000.
+        # Triggers as before; the large one is 1,000,000 for all three.
+        (load(chained(kinds, (6, 4), (5, 1, 2), (3, 7))), "load accepted 7"),
+        *targets(8, *["0 0 0 0"] * 3),
+        *looks(*["0 0 0 0"] * 10),
+        nothing(5, (), 3),
+        *targets(8, "40000 40 400 1", "-17000 19 190 1", "68000 68 680 1"),
+        # Unit 3 is 10's now: 20,000 - 68.
+        at(6, (), three, {3: large(1, 19_996), 10: large(1, 19_932)}, {3: over}),
+        # Unit 6 cannot be read: 8 is BLANK, and has 4 alone.
+        at(7, (), three, {6: none, 8: none}, {6: unreadable}),
+        *targets(8, "8000 8 80 0", "-17000 19 190 1", "68000 68 680 1"),
+    ]
+    for refusal in refusals:
+        steps += [refusal, *targets(8, "8000 8 80 0", "-17000 19 190 1", "68000 68 680 1")]
+    steps += [
+        # All goes on: nothing is kept for 6.
+        at(8, (), three, {3: large(1, 19_996), 10: large(1, 19_932), 6: none, 8: none}, {3: over}),
+        *targets(8, "40000 40 400 1", "-17000 19 190 1", "68000 68 680 1"),
+        refusals[0],
+        # Unit 5, a load, is the head of 9: -(20,000 - 190).
+        at(9, (), three, {5: large(1, 19_840), 9: large(1, -19_810)}, {5: over}),
+        refusals[2],
+        # Unit 2, a load, is its last: 20,000 - 20.
+        at(10, (), three, {2: large(1, 19_980), 9: large(2, -19_810)}, {2: over}),
+        # 7 5 3 1: point 8; 2, 4 and 6 in no chain. 64,000 - 16,000 + 4,000 + 1,000. MWO 300,000, ROC 9,000: small trigger 900,000,
+        # large 1,500,000.
+        (load(chained(kinds, (7, 5, 3, 1))), "load accepted 4"),
+        *targets(8, "0 0 0 0"),
+        refused("target", 10, target(9), target(10)),
+        refused("look", 10, look(9), look(10)),
+        nothing(1, (2, 4, 6), 1),
+        *targets(8, "53000 85 850 1"),
+        at(2, (2, 4, 6), ["0 2 0 0 0 900000 0"], {6: large(1, 19_968)}, {6: over}),
+        # Unit 1, its last: 20,000 - 85.
+        at(3, (2, 4, 6), [large(1, 19_915, 900_000)], {1: large(1, 19_999)}, {1: over}),
+        # Unit 2 stands in no chain: with mode 2 it cannot be read. Unit 7 stands in one: with mode 1 it is OFF.
+        at(4, (2, 4, 6), ["0 2 0 0 0 900000 0"], {2: none, 7: off}, {2: {"mode": 2}, 7: {"mode": 1}}),
+        *targets(8, "53000 85 850 1"),
+        *refusals,
+        # Unit 5 cannot be read, the second of the chain; units 3 and 1 beyond it are kept. 64,000 + 4,000 + 1,000.
+        at(5, (2, 4, 6), [none], {2: none, 5: none}, {5: unreadable}),
+        *targets(8, "69000 69 690 0"),
+        # No chain: no aggregate.
+        (load(chained(kinds)), "load accepted 0"),
+        refused("target", 10, target(8), target(7), target(1)),
+        nothing(1, range(1, 8), 0),
+        at(2, range(1, 8), [], {5: large(1, 19_840)}, {5: over}),
+        refusals[0],
+        refused("target", 10, target(8)),
+        # Mode 2 in no chain cannot be read, of whatever chain it was.
+        at(3, range(1, 8), [], {1: none, 3: none, 6: none, 5: large(2, 19_840)},
+           {1: {"mode": 2}, 3: {"mode": 2}, 6: {"mode": 2}, 5: over}),
+        # 7 6 5 4 3 2 and 1: points 8 and 9. 64,000 + 32,000 - 16,000 + 8,000 + 4,000 - 2,000. MWO of 8 400,000, ROC 12,000: small
+        # trigger 1,200,000, large 2,000,000.
+        (load(chained(kinds, (7, 6, 5, 4, 3, 2), (1,))), "load accepted 7"),
+        *targets(8, "0 0 0 0", "0 0 0 0"),
+        nothing(1, (), 2),
+        *targets(8, "90000 126 1260 1", "1000 1 10 1"),
+        at(2, (), ["0 2 0 0 0 1200000 0", large(1, 19_999)], {1: large(1, 19_999)}, {1: over}),
+        *refusals,
+        # Unit 2, the last of 8: -(20,000 - 1,260), SMALL.
+        at(3, (), ["1 4 1 0 -18740 1200000 0", on], {2: large(1, 19_980)}, {2: over}),
+        *targets(8, "90000 126 1260 1", "1000 1 10 1"),
+        # The same bytes once more: afresh.
+        (load(chained(kinds, (7, 6, 5, 4, 3, 2), (1,))), "load accepted 7"),
+        *targets(8, "0 0 0 0", "0 0 0 0"),
+        nothing(3, (), 2),
+        *targets(8, "90000 126 1260 1", "1000 1 10 1"),
+        # The two chains of the other aggregate each: 8 has unit 1 now.
+        (load(chained(kinds, (1,), (7, 6, 5, 4, 3, 2))), "load accepted 7"),
+        nothing(4, (), 2),
+        *targets(8, "1000 1 10 1", "90000 126 1260 1"),
+        at(5, (), [on, "1 4 1 0 -18740 1200000 0"], {2: large(1, 19_980)}, {2: over}),
+        *targets(8, "1000 1 10 1", "90000 126 1260 1"),
+    ]
+    return steps
+
+
 # ---- two lists that are alike for one group
 
 
@@ -3568,7 +4021,8 @@ LISTS = [every_status, operator_declaration, refusals_without_register, refusals
          reason_small_in_midst, reason_blank_and_doubt, reason_off_and_clear, reason_jump, reason_backlog, reason_past_255,
          reason_stays, reason_reinstated, reason_refused_calls, reason_refusals, reason_of_aggregate, reason_numbers, reason_plant,
          target_mixed, target_unreadable, target_between, target_jump, target_refusals, target_plant, target_declared, target_asked,
-         target_asked_in_chains]
+         target_asked_in_chains, side_by_side_orders, side_by_side_interleaved, side_by_side_ends, side_by_side_single,
+         side_by_side_regrouped]
 ALIKE = [(alike_1, alike_2), (alike_solar_1, alike_solar_2), (alike_levels_1, alike_levels_2), (alike_reasons_1, alike_reasons_2),
          (alike_targets_1, alike_targets_2)]
 # What `rt ci` runs the program on.

@@ -26,6 +26,7 @@ pub mod monitor;
 pub mod passes;
 pub mod program;
 pub mod random_calls;
+mod random_chains;
 pub mod random_days;
 pub mod random_ledgers;
 pub mod random_passes;

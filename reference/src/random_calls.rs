@@ -5,6 +5,7 @@
 
 use crate::line::Kind;
 use crate::marks::Triggers;
+use crate::random_chains::{deal, deck, nexts, shuffle, ORDERS};
 use crate::register::Plant;
 use crate::replay::Script;
 
@@ -95,6 +96,7 @@ struct Group {
     away: u32,
 }
 
+#[derive(Clone)]
 struct Unit {
     kind: Kind,
     target: i64,
@@ -117,6 +119,20 @@ struct Sketch {
 }
 
 impl Sketch {
+    fn new(units: Vec<Unit>, chains: &[Vec<usize>]) -> Self {
+        let group =
+            |aggregate, units| Group { aggregate, units, course: Course::OnTarget, upward: true, left: 1, away: 0 };
+        let mut groups: Vec<Group> =
+            chains.iter().enumerate().map(|(aggregate, chain)| group(Some(aggregate), chain.clone())).collect();
+        let in_no_chain = (0..units.len()).filter(|unit| !chains.iter().any(|chain| chain.contains(unit)));
+        groups.extend(in_no_chain.map(|unit| group(None, vec![unit])));
+        Self { units, groups, aggregates: chains.len() }
+    }
+
+    fn chains(&self) -> Vec<Vec<usize>> {
+        self.groups[..self.aggregates].iter().map(|group| group.units.clone()).collect()
+    }
+
     /// Units in no chain.
     fn loners(&self) -> Vec<usize> {
         self.groups.iter().filter(|group| group.aggregate.is_none()).flat_map(|group| group.units.clone()).collect()
@@ -181,6 +197,70 @@ impl Draft {
             put(at, float_bits(kw));
         }
         bytes
+    }
+}
+
+/// What a register is made to be.
+#[derive(Clone, Copy, PartialEq, Eq)]
+enum Shape {
+    /// Of so many units.
+    Any(usize),
+    OneChainOf64,
+    SixteenOf4,
+    SixteenOf1,
+}
+
+impl Shape {
+    fn any(random: &mut Random) -> Self {
+        match random.below(100) {
+            0..=3 => return Self::OneChainOf64,
+            4..=7 => return Self::SixteenOf4,
+            8..=12 => return Self::SixteenOf1,
+            _ => {}
+        }
+        Self::Any(match random.below(100) {
+            0..=39 => random.below(4) + 1,
+            40..=79 => random.below(5) + 4,
+            80..=92 => random.below(12) + 9,
+            93..=97 => random.below(44) + 21,
+            _ => 64,
+        })
+    }
+
+    fn units(self, random: &mut Random) -> usize {
+        match self {
+            Self::Any(units) => units,
+            Self::OneChainOf64 | Self::SixteenOf4 => 64,
+            Self::SixteenOf1 => 16 + random.below(6),
+        }
+    }
+
+    /// Deals units into chains; what is left stands in none.
+    fn chains(self, random: &mut Random, units: &mut Vec<usize>) -> Vec<Vec<usize>> {
+        let mut chains: Vec<Vec<usize>> = match self {
+            Self::Any(_) if random.chance(850) => {
+                let longest = random.pick(&[1, 2, 3, 4, 5, 64]);
+                let mut chains = Vec::new();
+                while !units.is_empty() && chains.len() < 16 {
+                    let length = if longest == 64 { 64 } else { random.below(longest) + 1 };
+                    chains.push(deal(units, length));
+                    if random.chance(250) {
+                        break;
+                    }
+                }
+                chains
+            }
+            Self::Any(_) => Vec::new(),
+            Self::OneChainOf64 => vec![deal(units, 64)],
+            Self::SixteenOf4 => (0..16).map(|_| deal(units, 4)).collect(),
+            Self::SixteenOf1 => (0..16).map(|_| deal(units, 1)).collect(),
+        };
+        // All chains in one order, or each in its own.
+        let order = random.chance(700).then(|| random.pick(&ORDERS));
+        for chain in &mut chains {
+            order.unwrap_or_else(|| random.pick(&ORDERS)).arrange(random, chain);
+        }
+        chains
     }
 }
 
@@ -321,11 +401,12 @@ impl Author {
                 break;
             }
             let spent = self.number == Some(u32::MAX);
-            if self.random.chance(if spent { 300 } else { 12 }) {
-                if self.random.chance(600) {
-                    self.load_damaged();
-                } else {
-                    self.load_sound(None);
+            if self.random.chance(if spent { 300 } else { 15 }) {
+                match self.random.below(16) {
+                    0..=5 => self.load_damaged(),
+                    6 | 7 => self.load_broken_chains(),
+                    8..=11 => self.load_regrouped(),
+                    _ => self.load_sound(None),
                 }
                 if self.random.chance(400) {
                     self.ask_targets();
@@ -392,86 +473,111 @@ impl Author {
     /// Bytes of an acceptable register and the sketch of its plant.
     fn sound_register(&mut self, small_plant: Option<usize>) -> (Vec<u8>, Sketch) {
         let random = &mut self.random;
-        let n = small_plant.unwrap_or_else(|| match random.below(100) {
-            0..=39 => random.below(4) + 1,
-            40..=79 => random.below(5) + 4,
-            80..=92 => random.below(12) + 9,
-            93..=95 => random.below(44) + 21,
-            _ => 64,
-        });
-        let mut shuffled: Vec<usize> = (0..n).collect();
-        for i in (1..n).rev() {
-            shuffled.swap(i, random.below(i + 1));
-        }
+        let shape = small_plant.map_or_else(|| Shape::any(random), Shape::Any);
+        let n = shape.units(random);
+        let neighbours = random.chance(300);
+        let mut unused = deck(random, n, neighbours);
         // Set aside before the chains, which often take all there are.
         let mut semi_scheduled = Vec::new();
-        if random.chance(450) {
-            let count = if random.chance(150) { n } else { random.below(n.min(4)) + 1 };
-            semi_scheduled = shuffled.split_off(n - count);
-        }
-        let mut chains: Vec<Vec<usize>> = Vec::new();
-        if random.chance(850) {
-            let longest = random.pick(&[1, 2, 3, 4, 5, 64]);
-            while !shuffled.is_empty() && chains.len() < 16 {
-                let length = if longest == 64 { shuffled.len() } else { random.below(longest) + 1 };
-                let length = length.min(shuffled.len());
-                chains.push(shuffled.split_off(shuffled.len() - length));
-                if random.chance(250) {
-                    break;
-                }
+        match shape {
+            Shape::Any(_) if random.chance(500) => {
+                let count = if random.chance(150) { n } else { random.below(n.min(4)) + 1 };
+                semi_scheduled = deal(&mut unused, count);
             }
+            Shape::SixteenOf1 => semi_scheduled = deal(&mut unused, random.below(n - 15)),
+            _ => {}
         }
-        let mut bytes = vec![n as u8, chains.len() as u8];
-        for _ in 0..2 {
-            bytes.extend(match random.below(20) {
-                0..=10 => [2, 3, 4],
-                11..=16 => {
-                    let low = random.within(2, 4) as u8;
-                    let middle = low + random.within(1, 2) as u8;
-                    [low, middle, middle + random.within(1, 3) as u8]
-                }
-                17 => [2, 9, 20],
-                18 => [2, 254, 255],
-                _ => {
-                    let low = random.within(2, 253) as u8;
-                    let middle = random.within(i64::from(low) + 1, 254) as u8;
-                    [low, middle, random.within(i64::from(middle) + 1, 255) as u8]
-                }
-            });
-        }
-        bytes.extend([0; 8]);
-        let mut next = vec![0; n];
-        for chain in &chains {
-            for pair in chain.windows(2) {
-                next[pair[0]] = pair[1] as u8 + 1;
-            }
-        }
+        let chains = shape.chains(random, &mut unused);
         let one_kind = random.chance(200).then(|| random.within(1, 3) as u8);
-        let mut units = Vec::new();
-        for (unit, next) in next.into_iter().enumerate() {
-            let kind =
-                if semi_scheduled.contains(&unit) { 4 } else { one_kind.unwrap_or_else(|| random.within(1, 3) as u8) };
-            bytes.extend([kind, next, 0, 0]);
-            units.push(sketch_unit(random, Kind::of(u32::from(kind)).unwrap_or(Kind::Generating)));
+        let units: Vec<Unit> = (0..n)
+            .map(|unit| {
+                let kind = match one_kind {
+                    _ if semi_scheduled.contains(&unit) => 4,
+                    Some(kind) => kind,
+                    None => random.within(1, 3) as u8,
+                };
+                sketch_unit(random, Kind::of(u32::from(kind)).unwrap_or(Kind::Generating))
+            })
+            .collect();
+        let bytes = register_bytes(random, &units, &chains);
+        (bytes, Sketch::new(units, &chains))
+    }
+
+    /// Bytes of an acceptable register of the same units in other chains, and its sketch; now and then in the same chains.
+    fn regrouped(&mut self, sketch: &Sketch) -> (Vec<u8>, Sketch) {
+        let random = &mut self.random;
+        let units: Vec<Unit> = sketch.units.iter().map(|unit| Unit { sent: None, ..unit.clone() }).collect();
+        let earlier = sketch.chains();
+        let mut chains = earlier.clone();
+        match random.below(8) {
+            // The same chains, those of other aggregates.
+            0 | 1 => shuffle(random, &mut chains),
+            // The same members in another order.
+            2 => chains.iter_mut().for_each(|chain| random.pick(&ORDERS).arrange(random, chain)),
+            // The last member of each chain goes to the front of the next: the list moves on by one place.
+            3 if chains.len() > 1 => {
+                let last: Vec<usize> = chains.iter_mut().filter_map(Vec::pop).collect();
+                for (place, &unit) in last.iter().enumerate() {
+                    chains[(place + 1) % last.len()].insert(0, unit);
+                }
+            }
+            // Chains as long as before.
+            4 | 5 => {
+                let mut members = chains.concat();
+                shuffle(random, &mut members);
+                chains.iter_mut().for_each(|chain| *chain = deal(&mut members, chain.len()));
+            }
+            _ => {}
         }
-        let mut groups = Vec::new();
-        let fresh =
-            |aggregate, units| Group { aggregate, units, course: Course::OnTarget, upward: true, left: 1, away: 0 };
-        for (aggregate, chain) in chains.iter().enumerate() {
-            bytes.extend([chain[0] as u8 + 1, 0, 0, 0]);
-            groups.push(fresh(Some(aggregate), chain.clone()));
+        if chains == earlier {
+            let neighbours = random.chance(300);
+            let mut unused = deck(random, units.len(), neighbours);
+            unused.retain(|&unit| units[unit].kind != Kind::SemiScheduled);
+            chains = Shape::Any(units.len()).chains(random, &mut unused);
         }
-        shuffled.extend(semi_scheduled);
-        shuffled.sort_unstable();
-        groups.extend(shuffled.iter().map(|&unit| fresh(None, vec![unit])));
-        (bytes, Sketch { units, groups, aggregates: chains.len() })
+        let bytes = register_bytes(random, &units, &chains);
+        (bytes, Sketch::new(units, &chains))
     }
 
     fn load_sound(&mut self, small_plant: Option<usize>) {
         let (bytes, sketch) = self.sound_register(small_plant);
-        self.script.load(&bytes);
+        self.load(&bytes, sketch);
+    }
+
+    fn load(&mut self, bytes: &[u8], sketch: Sketch) {
+        self.script.load(bytes);
         self.sketch = Some(sketch);
         self.number = None;
+    }
+
+    /// Loads the same units in other chains.
+    fn load_regrouped(&mut self) {
+        let Some(sketch) = self.sketch.take() else { return self.load_sound(None) };
+        let (bytes, sketch) = self.regrouped(&sketch);
+        self.load(&bytes, sketch);
+        if self.random.chance(300) {
+            self.load_broken_chains();
+        }
+    }
+
+    /// Loads the same units in other chains, refused for what these meet: 6, 7 or 30.
+    fn load_broken_chains(&mut self) {
+        let Some(sketch) = self.sketch.take() else { return self.load_damaged() };
+        let (mut bytes, other) = self.regrouped(&sketch);
+        self.sketch = Some(sketch);
+        let (chains, random) = (other.chains(), &mut self.random);
+        let loners = other.loners();
+        let next = |unit: usize| 17 + 4 * unit;
+        match (random.below(3), chains.last()) {
+            (0, Some(chain)) => set(&mut bytes, 16 + 4 * random.pick(chain), 4),
+            (1, Some(_)) if !loners.is_empty() => set(&mut bytes, next(random.pick(&loners)), loners[0] as u8 + 1),
+            (_, Some(chain)) => {
+                let into = random.pick(&chains.concat()) as u8 + 1;
+                set(&mut bytes, next(chain[chain.len() - 1]), into);
+            }
+            (_, None) => set(&mut bytes, next(random.pick(&loners)), loners[0] as u8 + 1),
+        }
+        self.script.load(&bytes);
     }
 
     /// Loads a damaged register. Damage that hit nothing leaves the sketch behind, so a sound load follows.
@@ -1117,6 +1223,32 @@ fn set(bytes: &mut [u8], at: usize, value: u8) {
     if let Some(byte) = bytes.get_mut(at) {
         *byte = value;
     }
+}
+
+fn register_bytes(random: &mut Random, units: &[Unit], chains: &[Vec<usize>]) -> Vec<u8> {
+    let mut bytes = vec![units.len() as u8, chains.len() as u8];
+    for _ in 0..2 {
+        bytes.extend(match random.below(20) {
+            0..=10 => [2, 3, 4],
+            11..=16 => {
+                let low = random.within(2, 4) as u8;
+                let middle = low + random.within(1, 2) as u8;
+                [low, middle, middle + random.within(1, 3) as u8]
+            }
+            17 => [2, 9, 20],
+            18 => [2, 254, 255],
+            _ => {
+                let low = random.within(2, 253) as u8;
+                let middle = random.within(i64::from(low) + 1, 254) as u8;
+                [low, middle, random.within(i64::from(middle) + 1, 255) as u8]
+            }
+        });
+    }
+    bytes.extend([0; 8]);
+    let nexts = nexts(units.len(), chains);
+    bytes.extend(units.iter().zip(nexts).flat_map(|(unit, next)| [unit.kind as u8, next, 0, 0]));
+    bytes.extend(chains.iter().flat_map(|chain| [chain[0] as u8 + 1, 0, 0, 0]));
+    bytes
 }
 
 fn sketch_unit(random: &mut Random, kind: Kind) -> Unit {

@@ -7,6 +7,7 @@ use crate::line::{Kind, Quality};
 use crate::marks::Triggers;
 use crate::passes::{read_sample, Case, BLOCK, BLOCKS, KEPT, SAMPLE};
 use crate::random_calls::{float_bits, Draft, Random, UNREADABLE_POWERS, UNREADABLE_RATES};
+use crate::random_chains::{deal, deck, nexts, Order};
 
 const LIMIT: i64 = 2_000_000;
 
@@ -43,14 +44,6 @@ struct Wish {
     kept: bool,
 }
 
-/// How the units of a chain follow one another.
-#[derive(Clone, Copy, PartialEq, Eq)]
-enum Order {
-    Rising,
-    Falling,
-    Shuffled,
-}
-
 /// A register before it becomes bytes; units from 0.
 struct Plan {
     kinds: Vec<Kind>,
@@ -76,14 +69,9 @@ impl Author {
         let (samples, picks) =
             if self.random.chance(80) { self.any_samples(&plan) } else { self.wished_samples(&plan) };
         let lengths: Vec<String> = plan.chains.iter().take(6).map(|chain| chain.len().to_string()).collect();
-        let order = match order {
-            Order::Rising => "rising",
-            Order::Falling => "falling",
-            Order::Shuffled => "shuffled",
-        };
         let mut label = format!("{}-{}", self.seed, self.count);
         if self.random.chance(900) {
-            label = format!("{label} {order} {}", lengths.join("+"));
+            label = format!("{label} {} {}", order.name(), lengths.join("+"));
         }
         Case { label: label.as_bytes(), register: &register, samples: &samples, picks: &picks }.bytes()
     }
@@ -111,30 +99,30 @@ impl Author {
     /// Lengths of the chains, and how many units stand in none.
     fn lengths(&mut self) -> (Vec<usize>, usize) {
         let random = &mut self.random;
-        let mut lengths = match random.below(20) {
-            0..=5 => return (vec![64], 0),
-            6..=10 => {
+        let mut lengths = match random.below(40) {
+            0..=11 => return (vec![64], 0),
+            12..=21 => {
                 let more = random.below(5);
                 let single = if more > 0 && random.chance(500) { random.below(more) + 1 } else { 0 };
                 let mut lengths = vec![1; single];
                 lengths.insert(random.below(single + 1), 60);
                 return (lengths, more - single);
             }
-            11 | 12 => vec![random.below(63) + 1],
-            13 => vec![random.pick(&[1, 2, 3, 4, 59, 61, 62, 63])],
-            14..=17 => {
+            22..=24 => vec![random.below(63) + 1],
+            25 => vec![random.pick(&[1, 2, 3, 4, 59, 61, 62, 63])],
+            26..=30 => {
                 let longest = random.pick(&[2, 3, 4, 6, 9, 16]);
                 (0..random.below(15) + 2).map(|_| random.below(longest) + 1).collect()
             }
-            18 => (0..16).map(|_| random.below(4) + 1).collect(),
-            _ => vec![1; random.below(16) + 1],
+            31 => (0..16).map(|_| random.below(4) + 1).collect(),
+            32..=34 => return (vec![4; 16], 0),
+            35 => vec![1; random.below(16) + 1],
+            36 | 37 => vec![1; 16],
+            // A register without aggregates.
+            _ => Vec::new(),
         };
         while lengths.iter().sum::<usize>() > 64 {
             lengths.pop();
-        }
-        if random.chance(15) {
-            // A register without aggregates.
-            lengths.clear();
         }
         let room = 64 - lengths.iter().sum::<usize>();
         let least = usize::from(lengths.is_empty());
@@ -146,18 +134,10 @@ impl Author {
         let (lengths, loners) = self.lengths();
         let n = lengths.iter().sum::<usize>() + loners;
         let random = &mut self.random;
-        let mut units: Vec<usize> = (0..n).collect();
-        for i in (1..n).rev() {
-            units.swap(i, random.below(i + 1));
-        }
-        let mut chains: Vec<Vec<usize>> = lengths.iter().map(|&length| units.split_off(units.len() - length)).collect();
-        for chain in &mut chains {
-            match order {
-                Order::Rising => chain.sort_unstable(),
-                Order::Falling => chain.sort_unstable_by(|one, other| other.cmp(one)),
-                Order::Shuffled => {}
-            }
-        }
+        let neighbours = random.chance(300);
+        let mut units = deck(random, n, neighbours);
+        let mut chains: Vec<Vec<usize>> = lengths.iter().map(|&length| deal(&mut units, length)).collect();
+        chains.iter_mut().for_each(|chain| order.arrange(random, chain));
         let member_kinds = [Kind::Generating, Kind::Load, Kind::Bidirectional];
         let one_kind = random.chance(300).then(|| random.pick(&member_kinds));
         let mut kinds: Vec<Kind> = (0..n).map(|_| one_kind.unwrap_or_else(|| random.pick(&member_kinds))).collect();
@@ -177,11 +157,8 @@ impl Author {
             bytes.extend(self.random.pick(&[[2, 3, 4], [low as u8, low as u8 + 1, 255]]));
         }
         bytes.extend([0; 8]);
-        let mut next = vec![0; plan.kinds.len()];
-        for pair in plan.chains.iter().flat_map(|chain| chain.windows(2)) {
-            next[pair[0]] = pair[1] as u8 + 1;
-        }
-        bytes.extend(plan.kinds.iter().zip(next).flat_map(|(&kind, next)| [kind as u8, next, 0, 0]));
+        let nexts = nexts(plan.kinds.len(), &plan.chains);
+        bytes.extend(plan.kinds.iter().zip(nexts).flat_map(|(&kind, next)| [kind as u8, next, 0, 0]));
         bytes.extend(plan.chains.iter().flat_map(|chain| [chain[0] as u8 + 1, 0, 0, 0]));
         bytes
     }

@@ -23,7 +23,15 @@ impl RunLengths {
     }
 }
 
-/// An accepted register, with the members of each aggregate laid out in chain order.
+/// Where the members of one aggregate stand in the flat list.
+#[derive(Clone, Copy, Default, PartialEq, Eq, Debug)]
+pub struct Stretch {
+    /// Counted from 0.
+    pub start: u8,
+    pub count: u8,
+}
+
+/// An accepted register, with the members of each aggregate side by side in chain order.
 ///
 /// Units are indices 0 to n-1 here; points 1 to n of the papers.
 #[derive(Clone, PartialEq, Eq, Debug)]
@@ -33,10 +41,10 @@ pub struct Plant {
     small: RunLengths,
     large: RunLengths,
     kinds: [Kind; MAX_UNITS],
-    /// Members of aggregate 0, then 1, ...; then the units in no chain in rising order.
+    /// The flat list: members of aggregate 0 along its chain, then those of 1, ...; then the units in no chain, rising.
     order: [u8; MAX_UNITS],
-    /// Where in `order` each aggregate ends; all members end at `member_count`.
-    ends: [u8; MAX_AGGREGATES],
+    /// The part of `order` that each aggregate has; all of them together are its first `member_count`.
+    stretches: [Stretch; MAX_AGGREGATES],
     member_count: u8,
 }
 
@@ -87,9 +95,10 @@ impl Plant {
         // 6: walk every chain; a second meeting ends a loop too.
         let mut met = [false; MAX_UNITS];
         let mut order = [0; MAX_UNITS];
-        let mut ends = [0; MAX_AGGREGATES];
+        let mut stretches = [Stretch::default(); MAX_AGGREGATES];
         let mut visits = 0;
-        for (end, head) in ends.iter_mut().zip(head_records) {
+        for (stretch, head) in stretches.iter_mut().zip(head_records) {
+            let start = visits;
             let mut next = head[0];
             while next != 0 {
                 let unit = next - 1;
@@ -101,7 +110,7 @@ impl Plant {
                 visits += 1;
                 next = unit_records[usize::from(unit)][1];
             }
-            *end = visits as u8;
+            *stretch = Stretch { start: start as u8, count: (visits - start) as u8 };
         }
 
         // 7: a unit that no chain met has no next.
@@ -129,7 +138,7 @@ impl Plant {
             large,
             kinds,
             order,
-            ends,
+            stretches,
             member_count: visits as u8,
         };
         Ok((plant, visits as u32))
@@ -171,8 +180,19 @@ impl Plant {
 
     /// The units of an aggregate, in chain order.
     pub fn members(&self, aggregate: usize) -> &[u8] {
-        let start = if aggregate == 0 { 0 } else { self.ends[aggregate - 1] };
-        &self.order[usize::from(start)..usize::from(self.ends[aggregate])]
+        let Stretch { start, count } = self.stretches[aggregate];
+        let start = usize::from(start);
+        &self.order[start..start + usize::from(count)]
+    }
+
+    /// Where an aggregate's members stand in the list of all members.
+    pub fn stretch(&self, aggregate: usize) -> Stretch {
+        self.stretches[aggregate]
+    }
+
+    /// The members of all aggregates, one aggregate after the other.
+    pub fn all_members(&self) -> &[u8] {
+        &self.order[..usize::from(self.member_count)]
     }
 
     /// The units in no chain, rising.

@@ -1,4 +1,4 @@
--- How large sums over members are: each member adds at most 2,000,000, and a walk along a chain takes at most 65 steps.
+-- How large sums over members are: each member adds at most 2,000,000, and an aggregate has at most 64 of them.
 use Prim.Native.Nat.{ℕ, _≤_}
 use lib.IntN.{natAbs}
 use Rattle.triggers.specs.Bounds.{SmallCapability}

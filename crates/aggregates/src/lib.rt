@@ -3,18 +3,115 @@
 ghost use mathlib.Core.Path.{_≡_};
 ghost use Prim.Native.Nat.{_^_, _<_};
 ghost use lib.IntN.{natAbs};
-ghost use Rattle.marks.specs.Bounds.{SmallFields, SmallSight};
-ghost use Rattle.aggregates.specs.Aggregates.{addSigned, addFlags, unreadableFlags, addPresent, addKept, addReadable, addUnreadable};
-ghost use Rattle.aggregates.specs.Aggregates.{addMember, noSums, aggregateBasis, sumsAssessment};
+ghost use Rattle.marks.specs.Bounds.{SmallFields};
+ghost use Rattle.marks.specs.Measures.{measuresOf};
+ghost use Rattle.aggregates.specs.Aggregates.{addSigned, unreadableFlags, addUnreadable, noSums, aggregateBasis, sumsAssessment};
 ghost use Rattle.aggregates.specs.Sizes.{SmallPresent, SmallKeptSums, SmallSums};
+ghost use Rattle.aggregates.specs.Views.{noView, readableView, unreadableView, viewCapability, flagsWith, presentWith, keptWith};
+ghost use Rattle.aggregates.specs.Views.{addReadableView, addView, SmallView};
 use marks::Assessment;
 use marks::Basis;
 use marks::Kept;
 use marks::Mark;
-use marks::Sight;
+use marks::Measures;
 use telemetry::Fields;
-use telemetry::Line;
 use triggers::Capability;
+
+// ---- a member
+
+// A member as its aggregate's sums take it, in whole kW: whether it is a load, its line is readable, its conformance mode is not 0, it can be
+// assessed and its value is substituted; MWB, MW, MWO and both rates of this line; MWB, FCR and FCL of the kept one.
+pub struct View {
+    pub load: bool,
+    pub readable: bool,
+    pub monitored: bool,
+    pub known: bool,
+    pub doubtful: bool,
+    pub target: i32,
+    pub power: i32,
+    pub availability: u32,
+    pub up: u32,
+    pub down: u32,
+    pub kept_target: i32,
+    pub raise: u32,
+    pub lower: u32,
+}
+
+pub fn no_view() -> View
+    ensures { λ r. ⌜ r ≡ noView ⌝ }
+{
+    View {
+        load: false,
+        readable: false,
+        monitored: false,
+        known: false,
+        doubtful: false,
+        target: 0,
+        power: 0,
+        availability: 0,
+        up: 0,
+        down: 0,
+        kept_target: 0,
+        raise: 0,
+        lower: 0,
+    }
+}
+
+fn narrowed(n: u64) -> u32
+    requires { ⌜ n < 2 ^ 32 ⌝ }
+    ensures { λ r. ⌜ r ≡ n ⌝ }
+{
+    n as u32
+}
+
+// A member whose line is readable.
+pub fn view_of(kind: u8, f: Fields, k: Kept, measures: Measures) -> View
+    requires { ⌜ SmallFields f ⌝ }
+    requires { ⌜ measures ≡ measuresOf f ⌝ }
+    ensures { λ r. ⌜ r ≡ readableView kind f k ⌝ }
+{
+    let unit = measures.capability;
+    View {
+        load: kind == 2,
+        readable: true,
+        monitored: f.mode != 0,
+        known: marks::is_known(f, k),
+        doubtful: marks::is_doubtful(f.power()),
+        target: f.target,
+        power: measures.power,
+        availability: f.availability,
+        up: narrowed(unit.up),
+        down: narrowed(unit.down),
+        kept_target: k.target,
+        raise: k.raise,
+        lower: k.lower,
+    }
+}
+
+pub fn unreadable_view(kind: u8) -> View
+    ensures { λ r. ⌜ r ≡ unreadableView kind ⌝ }
+{
+    let mut view = no_view();
+    view.load = kind == 2;
+    view
+}
+
+impl View {
+    fn capability(self) -> Capability
+        ensures { λ r. ⌜ r ≡ viewCapability self ⌝ }
+    {
+        let up = self.up as u64;
+        let down = self.down as u64;
+        Capability {
+            availability: self.availability as u64,
+            up,
+            down,
+            least: triggers::lesser(up, down),
+        }
+    }
+}
+
+// ---- sums
 
 // Of the members so far: whether every line is readable, some conformance mode is not 0, every member can be assessed, and some
 // value is substituted.
@@ -60,14 +157,14 @@ pub fn add_signed(load: bool, sum: i64, z: i32) -> i64
 }
 
 impl Flags {
-    fn plus(self, f: Fields, k: Kept) -> Flags
-        ensures { λ r. ⌜ r ≡ addFlags self f k ⌝ }
+    fn plus(self, member: View) -> Flags
+        ensures { λ r. ⌜ r ≡ flagsWith self member ⌝ }
     {
         Flags {
             readable: self.readable,
-            monitored: self.monitored | (f.mode != 0),
-            known: self.known & marks::is_known(f, k),
-            doubtful: self.doubtful | marks::is_doubtful(f.power()),
+            monitored: self.monitored | member.monitored,
+            known: self.known & member.known,
+            doubtful: self.doubtful | member.doubtful,
         }
     }
 
@@ -80,26 +177,26 @@ impl Flags {
 }
 
 impl Present {
-    fn plus(self, load: bool, f: Fields) -> Present
+    fn plus(self, member: View) -> Present
         requires { ⌜ SmallPresent (2 ^ 59) self ⌝ }
-        ensures { λ r. ⌜ r ≡ addPresent load self f ⌝ }
+        ensures { λ r. ⌜ r ≡ presentWith self member ⌝ }
     {
         Present {
-            target: add_signed(load, self.target, f.target),
-            power: add_signed(load, self.power, marks::power_in(f.power())),
+            target: add_signed(member.load, self.target, member.target),
+            power: add_signed(member.load, self.power, member.power),
         }
     }
 }
 
 impl KeptSums {
-    fn plus(self, load: bool, k: Kept) -> KeptSums
+    fn plus(self, member: View) -> KeptSums
         requires { ⌜ SmallKeptSums (2 ^ 59) self ⌝ }
-        ensures { λ r. ⌜ r ≡ addKept load self k ⌝ }
+        ensures { λ r. ⌜ r ≡ keptWith self member ⌝ }
     {
         KeptSums {
-            target: add_signed(load, self.target, k.target),
-            raise: signed::plus(self.raise, signed::whole(k.raise)),
-            lower: signed::plus(self.lower, signed::whole(k.lower)),
+            target: add_signed(member.load, self.target, member.kept_target),
+            raise: signed::plus(self.raise, signed::whole(member.raise)),
+            lower: signed::plus(self.lower, signed::whole(member.lower)),
         }
     }
 }
@@ -135,22 +232,21 @@ impl Sums {
         }
     }
 
-    fn plus_readable(self, kind: u8, f: Fields, k: Kept) -> Sums
-        requires { ⌜ SmallSums (2 ^ 59) self × SmallFields f ⌝ }
-        ensures { λ r. ⌜ r ≡ addReadable self kind f k ⌝ }
+    fn plus_readable(self, member: View) -> Sums
+        requires { ⌜ SmallSums (2 ^ 59) self × SmallView member ⌝ }
+        ensures { λ r. ⌜ r ≡ addReadableView self member ⌝ }
     {
-        let load = kind == 2;
+        let load = member.load;
         let flags = self.flags;
         let present = self.present;
         let kept = self.kept;
         let supply = self.supply;
         let loads = self.loads;
-        let readings = f.readings;
-        let unit = triggers::capability_of(readings, f.availability, f.bid_up, f.bid_down);
+        let unit = member.capability();
         Sums {
-            flags: flags.plus(f, k),
-            present: present.plus(load, f),
-            kept: kept.plus(load, k),
+            flags: flags.plus(member),
+            present: present.plus(member),
+            kept: kept.plus(member),
             supply: supply.plus(!load, unit),
             loads: loads.plus(load, unit),
         }
@@ -173,16 +269,15 @@ impl Sums {
         }
     }
 
-    // One member more.
-    pub fn plus(self, member: Sight) -> Sums
-        requires { ⌜ SmallSums (2 ^ 59) self × SmallSight member ⌝ }
-        ensures { λ r. ⌜ r ≡ addMember self member ⌝ }
+    // One member more. Of an unreadable line nothing is added.
+    pub fn plus(self, member: View) -> Sums
+        requires { ⌜ SmallSums (2 ^ 59) self × SmallView member ⌝ }
+        ensures { λ r. ⌜ r ≡ addView self member ⌝ }
     {
-        let line = member.line;
-        let kept = member.kept;
-        match line {
-            Line::Readable(f) => self.plus_readable(member.kind, f, kept),
-            Line::Unreadable => self.plus_unreadable(),
+        if member.readable {
+            self.plus_readable(member)
+        } else {
+            self.plus_unreadable()
         }
     }
 

@@ -3,4 +3,4 @@ pub mod Plants
 pub mod Assessments
 pub mod Monitors
 pub mod Intervals
-pub mod Sights
+pub mod Units

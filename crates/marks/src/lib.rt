@@ -4,16 +4,18 @@
 ghost use mathlib.Core.Path.{_≡_};
 ghost use Prim.Native.Nat.{_^_, _<_};
 ghost use lib.IntN.{natAbs};
-ghost use Rattle.triggers.specs.Triggers.{directionOf, rateOf, unitCapability};
+ghost use Rattle.triggers.specs.Triggers.{directionOf, rateOf};
 ghost use Rattle.marks.specs.Errors.{overOf, underOf, errorOf, exceeds};
 ghost use Rattle.marks.specs.KeptLines.{nothingKept, keptBounded, keptFrom};
 ghost use Rattle.marks.specs.Assessments.{kilowattsIn, isMissing, isDoubtful, isKnown, markOf, judged, without, upOf, downOf};
 ghost use Rattle.marks.specs.Assessments.{isCapped, isUncapped, unitBasis, knownAssessment, readableAssessment, unitAssessment};
+ghost use Rattle.marks.specs.Measures.{measuresOf};
 ghost use Rattle.marks.specs.Bounds.{SmallFields, SmallKept, SmallSight, SmallBasis};
 ghost use Rattle.marks.specs.Hosts.{markNumber, secondMark, unitMarkOf};
 use telemetry::Fields;
 use telemetry::Line;
 use telemetry::Reading;
+use triggers::Capability;
 
 // ---- kept lines
 
@@ -248,14 +250,29 @@ fn down_of(kind: u8, k: Kept) -> i64
     }
 }
 
-// The rate of change goes by this line's target.
-fn unit_rate(f: Fields, power: i64) -> u64
-    ensures { λ r. ⌜ r ≡ rateOf (directionOf (f .target) power) (unitCapability f) ⌝ }
+// What a readable line comes to in whole kW.
+pub struct Measures {
+    pub power: i32,
+    pub capability: Capability,
+}
+
+pub fn measure(f: Fields) -> Measures
+    ensures { λ r. ⌜ r ≡ measuresOf f ⌝ }
 {
-    let direction = triggers::direction_of(signed::widened(f.target), power);
+    let power = power_in(f.power());
     let readings = f.readings;
-    let unit = triggers::capability_of(readings, f.availability, f.bid_up, f.bid_down);
-    unit.rate(direction)
+    let capability = triggers::capability_of(readings, f.availability, f.bid_up, f.bid_down);
+    Measures { power, capability }
+}
+
+// The rate of change goes by this line's target.
+fn unit_rate(f: Fields, measures: Measures) -> u64
+    ensures { λ r. ⌜ r ≡ rateOf (directionOf (f .target) (measures .power)) (measures .capability) ⌝ }
+{
+    let power = signed::widened(measures.power);
+    let direction = triggers::direction_of(signed::widened(f.target), power);
+    let capability = measures.capability;
+    capability.rate(direction)
 }
 
 // A semi-scheduled unit whose cap flag is 1.
@@ -272,38 +289,46 @@ fn is_uncapped(kind: u8, flag: bool) -> bool
     (kind == 4) & !flag
 }
 
-fn unit_basis(kind: u8, f: Fields, k: Kept) -> Basis
+fn unit_basis(kind: u8, f: Fields, k: Kept, measures: Measures) -> Basis
+    requires { ⌜ measures ≡ measuresOf f ⌝ }
     ensures { λ r. ⌜ r ≡ unitBasis kind f k ⌝ }
 {
-    let reading = f.power();
-    let power = signed::widened(power_in(reading));
     let availability = f.availability as u64;
     Basis {
-        power,
+        power: signed::widened(measures.power),
         target: signed::widened(k.target),
         up: up_of(kind, k),
         down: down_of(kind, k),
         availability,
-        rate: unit_rate(f, power),
-        doubtful: is_doubtful(reading),
+        rate: unit_rate(f, measures),
+        doubtful: is_doubtful(f.power()),
         capped: is_capped(kind, k.capped),
         unidirectional: telemetry::is_unidirectional(kind),
     }
 }
 
 // A unit that has a value and a kept line.
-fn assess_known(kind: u8, f: Fields, k: Kept) -> Assessment
+fn assess_known(kind: u8, f: Fields, k: Kept, measures: Measures) -> Assessment
     requires { ⌜ SmallFields f × SmallKept k ⌝ }
+    requires { ⌜ measures ≡ measuresOf f ⌝ }
     ensures { λ r. ⌜ r ≡ knownAssessment kind f k ⌝ }
 {
     if is_uncapped(kind, k.capped) {
         return unassessed(Mark::Off);
     }
-    judge(unit_basis(kind, f, k))
+    judge(unit_basis(kind, f, k, measures))
 }
 
-fn assess_readable(kind: u8, chained: bool, f: Fields, k: Kept) -> Assessment
+// A unit whose line is readable.
+pub fn assess_readable(
+    kind: u8,
+    chained: bool,
+    f: Fields,
+    k: Kept,
+    measures: Measures,
+) -> Assessment
     requires { ⌜ SmallFields f × SmallKept k ⌝ }
+    requires { ⌜ measures ≡ measuresOf f ⌝ }
     ensures { λ r. ⌜ r ≡ readableAssessment kind chained f k ⌝ }
 {
     let unmonitored = chained & (f.mode != 2);
@@ -311,7 +336,7 @@ fn assess_readable(kind: u8, chained: bool, f: Fields, k: Kept) -> Assessment
         return unassessed(Mark::Off);
     }
     if is_known(f, k) {
-        return assess_known(kind, f, k);
+        return assess_known(kind, f, k, measures);
     }
     unassessed(Mark::Blank)
 }
@@ -324,7 +349,7 @@ pub fn assess_unit(chained: bool, unit: Sight) -> Assessment
     let line = unit.line;
     let kept = unit.kept;
     match line {
-        Line::Readable(f) => assess_readable(unit.kind, chained, f, kept),
+        Line::Readable(f) => assess_readable(unit.kind, chained, f, kept, measure(f)),
         Line::Unreadable => unassessed(Mark::Blank),
     }
 }

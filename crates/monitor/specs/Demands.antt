@@ -8,12 +8,12 @@ use Prim.Native.Nat.{ℕ, zero, suc, _+_, _*_, _≤_}
 use lib.IntN.{ℤ}
 use lib.ListN.{length, take, drop}
 use Rattle.trace.specs.Lists.{outcomes, Alike, sights, Since}
-use Rattle.plants.specs.declared.Plant.{Plant}
+use Rattle.plants.specs.Plants.{Plant, place}
 use Rattle.marks.specs.Levels.{isDispatchable}
 use Rattle.marks.specs.declared.Mark.the-variants.{Small, Large}
 use Rattle.points.specs.declared.Point.{Point}
-use Rattle.intervals.specs.Plants.{total, place, named, isUnidirectionalAt, Group, unitIn, pointIn}
-use Rattle.intervals.specs.Assessments.{headerOf, modeOf}
+use Rattle.intervals.specs.Plants.{total, named, isUnidirectionalAt, Group, unitIn, pointIn}
+use Rattle.intervals.specs.Assessments.{headerOf, modeOf, bytesAt}
 use Rattle.intervals.specs.Monitors.{pointAt}
 use Rattle.intervals.specs.declared.Monitor.{Monitor}
 use Rattle.intervals.specs.declared.Verdict.the-variants.{Accept}
@@ -26,10 +26,6 @@ use Rattle.monitor.specs.History.{History, begin, isDeclared, assessment
 -- a call names a point of the group. "Point 0 and points above n+m are outside every group"
 abbrev pub names : Plant → Group → ℕ → Bool
 names plant g p = named plant p && pointIn plant g (place p)
-
--- the 40 bytes of the unit at a place
-abbrev pub bytesAt : List ℕ → ℕ → List ℕ
-bytesAt buffer i = take 40 (drop (8 + 40 * i) buffer)
 
 -- Two calls at the same place of the two lists: "lines of units outside the group may be rewritten, .. and all else stays, interval
 -- headers and buffer lengths too". "What a report buffer held before its call may differ"

@@ -8,7 +8,7 @@ use lib.IntN.{ℤ, pos}
 use lib.ListN.{length}
 use Rattle.trace.specs.Sweeps.{records}
 use Rattle.trace.specs.Lists.{fold, updated, below}
-use Rattle.plants.specs.declared.Plant.{Plant}
+use Rattle.plants.specs.Plants.{Plant, place}
 use Rattle.marks.specs.KeptLines.{nothingKept, keptFrom}
 use Rattle.marks.specs.declared.Kept.{Kept}
 use Rattle.marks.specs.declared.Assessment.{Assessment}
@@ -19,7 +19,7 @@ use Rattle.points.specs.declared.Reason.{Reason}
 use Rattle.points.specs.declared.Reason.the-variants.{ByOperator}
 use Rattle.points.specs.declared.Run.{Run}
 use Rattle.points.specs.declared.Point.{Point}
-use Rattle.intervals.specs.Plants.{total, place, named, isUnidirectionalAt}
+use Rattle.intervals.specs.Plants.{total, named, isUnidirectionalAt}
 use Rattle.intervals.specs.Assessments.{headerOf, numberOf, isAutomatic, ruleOf, lineAt, isFresh, assessmentAt}
 use Rattle.intervals.specs.Intervals.{decide, judgeInterval}
 use Rattle.intervals.specs.declared.Verdict.{Verdict}

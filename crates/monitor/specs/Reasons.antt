@@ -6,12 +6,11 @@ use mathlib.Core.List.{List, [], _∷_, _++_}
 use Prim.Native.Nat.{ℕ, _≤_, _<_}
 use lib.IntN.{ℤ}
 use Rattle.trace.specs.Lists.{Earliest}
-use Rattle.plants.specs.declared.Plant.{Plant}
+use Rattle.plants.specs.Plants.{Plant, place}
 use Rattle.marks.specs.declared.Mark.{Mark}
 use Rattle.marks.specs.declared.Mark.the-variants.{Off, Clear, Small, Large}
 use Rattle.points.specs.declared.Reason.{Reason}
 use Rattle.points.specs.declared.Reason.the-variants.{ByOperator, BySmallRun, ByLargeRun}
-use Rattle.intervals.specs.Plants.{place}
 use Rattle.intervals.specs.Assessments.{headerOf, numberOf}
 use Rattle.intervals.specs.declared.Monitor.{Monitor}
 use Rattle.intervals.specs.declared.Verdict.the-variants.{Accept}

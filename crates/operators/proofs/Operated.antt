@@ -5,20 +5,20 @@ use Prim.Native.Nat.{ℕ, zero, suc, _+_, _-_, _≤_, _<_}
 use native.Mathlib.Omega.{arith}
 use borrow.Author.Tests.{le-leb, lt-leb, ltb-true, ltb-false}
 use lib.Dec.{leb, ltb}
-use Rattle.plants.specs.declared.Plant.{Plant}
+use Rattle.plants.specs.Plants.{Plant, place}
 use Rattle.targets.specs.Targets.{noTarget}
 use Rattle.targets.specs.declared.Target.{Target}
 use Rattle.points.specs.Points.{normal}
 use Rattle.points.specs.declared.Reason.the-variants.{ByOperator}
-use Rattle.intervals.specs.Plants.{total, place, named}
-use Rattle.intervals.specs.Monitors.{targetAt, pointAt, soundOf}
+use Rattle.intervals.specs.Plants.{total, named}
+use Rattle.intervals.specs.Monitors.{plantIn, targetAt, pointAt, soundOf}
 use Rattle.intervals.specs.declared.Monitor.{Monitor}
 use Rattle.intervals.specs.declared.Verdict.{Verdict}
 use Rattle.intervals.specs.declared.Verdict.the-variants.{Accept, Refuse}
 use Rattle.intervals.specs.declared.Stepped.{Stepped}
 use Rattle.intervals.proofs.States.{units-small, aggregates-small}
 use Rattle.intervals.proofs.Verdicts.{passed}
-use Rattle.operators.specs.Operators.{Operator, ask, look, reason, target, aggregateAt, permit, permitDeclared, change, locateOf}
+use Rattle.operators.specs.Operators.{Operator, ask, look, reason, target, permit, permitDeclared, change, locateOf}
 use Rattle.operators.specs.Operators.{operatorVerdict, stored, operatedOf, operatedAt, lookedOf, lookedAt, reasonedOf, reasonedAt, targetedOf, targetedAt}
 use Rattle.operators.specs.declared.Looked.{Looked}
 use Rattle.operators.specs.declared.Reasoned.{Reasoned}
@@ -37,27 +37,29 @@ named-is plant (suc i) = go (ltb i (total plant)) refl
 
 module _ (m : Monitor) (p : ℕ) where
   -- the state is sound and the point is named
-  both-pass : locateOf m p ≡ Accept → (soundOf m ≡ true) × (named (m .plant) p ≡ true)
+  both-pass : locateOf m p ≡ Accept → (soundOf m ≡ true) × (named (plantIn m) p ≡ true)
   unfolding locateOf
-  both-pass e = let loaded = passed (soundOf m) _ 20 e in (loaded .0, passed (named (m .plant) p) _ 10 (loaded .1) .0)
+  both-pass e = let loaded = passed (soundOf m) _ 20 e in (loaded .0, passed (named (plantIn m) p) _ 10 (loaded .1) .0)
 
-  positive : (q : ℕ) → named (m .plant) q ≡ true → (1 ≤ q) × (q ≤ total (m .plant)) × (place q ≡ q - 1)
+  positive : (q : ℕ) → named (plantIn m) q ≡ true → (1 ≤ q) × (q ≤ total (plantIn m)) × (place q ≡ q - 1)
   unfolding named
   positive zero e = absurd (let z : _≡_ {A = ℕ} 0 1 = cc in omega arith)
-  positive (suc i) e = let h : i < total (m .plant) = ltb-true i (total (m .plant)) e in (omega arith, omega arith, omega arith)
+  positive (suc i) e = let h : i < total (plantIn m) = ltb-true i (total (plantIn m)) e in (omega arith, omega arith, omega arith)
 
   pub located : locateOf m p ≡ Accept → (1 ≤ p) × (p ≤ 80) × (place p ≡ p - 1)
+  unfolding plantIn
   located e =
       let b = both-pass e in
       let q = positive p (b .1) in
       (q .0, omega (arith, q .1, units-small m (b .0), aggregates-small m (b .0)), q .2)
 
   -- its kinds can be looked up
-  pub located-units : locateOf m p ≡ Accept → m .plant .units ≤ 64
+  pub located-units : locateOf m p ≡ Accept → m .roster .units ≤ 64
   located-units e = units-small m (both-pass e .0)
 
   -- and it is a unit's, or that of one of 16 aggregates
-  pub located-below : locateOf m p ≡ Accept → p - 1 < m .plant .units + 16
+  pub located-below : locateOf m p ≡ Accept → p - 1 < m .roster .units + 16
+  unfolding plantIn
   located-below e = let b = both-pass e in omega (arith, positive p (b .1), aggregates-small m (b .0))
 
 -- ---- what a call does, by where it points
@@ -71,14 +73,14 @@ module _ (m : Monitor) (p : ℕ) (v : Verdict) (is : v ≡ locateOf m p) where
   judged-refused : (op : Operator) (k : ℕ) → v ≡ Refuse k → operatorVerdict op m p ≡ Refuse k
   unfolding operatorVerdict locateOf
   judged-refused op k e =
-      let own = still-refused (named (m .plant) p) Accept _ 10 k (λ a. absurd (let z : _≡_ {A = ℕ} 0 1 = cc in omega arith)) in
+      let own = still-refused (named (plantIn m) p) Accept _ 10 k (λ a. absurd (let z : _≡_ {A = ℕ} 0 1 = cc in omega arith)) in
       still-refused (soundOf m) _ _ 20 k own (sym is ∙ e)
 
-  judged-accepted : (op : Operator) (i : ℕ) → v ≡ Accept → i ≡ p - 1 → operatorVerdict op m p ≡ permit (m .plant) i op (pointAt m i)
+  judged-accepted : (op : Operator) (i : ℕ) → v ≡ Accept → i ≡ p - 1 → operatorVerdict op m p ≡ permit (plantIn m) i op (pointAt m i)
   unfolding operatorVerdict
   judged-accepted op i e f =
       let b = both-pass m p (sym is ∙ e) in
-      rw (b .0, b .1) (ap (λ (j : ℕ). permit (m .plant) j op (pointAt m j)) (located m p (sym is ∙ e) .2 ∙ sym f))
+      rw (b .0, b .1) (ap (λ (j : ℕ). permit (plantIn m) j op (pointAt m j)) (located m p (sym is ∙ e) .2 ∙ sym f))
 
   pub refused-call : (op : Operator) (k : ℕ) → v ≡ Refuse k → _≡_ {A = Stepped} (record { verdict = v; monitor = m }) (operatedOf op m p)
   unfolding operatedOf
@@ -122,7 +124,7 @@ module _ (m : Monitor) (p : ℕ) (v : Verdict) (is : v ≡ locateOf m p) where
 
 -- ---- at a point's record
 
-module _ (op : Operator) (m : Monitor) (i : ℕ) (v : Verdict) (is : v ≡ permit (m .plant) i op (pointAt m i)) where
+module _ (op : Operator) (m : Monitor) (i : ℕ) (v : Verdict) (is : v ≡ permit (plantIn m) i op (pointAt m i)) where
   pub accepted-at : (n : Monitor) → v ≡ Accept → n ≡ stored m i (change op (pointAt m i))
       → _≡_ {A = Stepped} (record { verdict = v; monitor = n }) (operatedAt op m i)
   unfolding operatedAt
@@ -142,12 +144,12 @@ module _ (m : Monitor) (i : ℕ) (v : Verdict) (is : v ≡ permitDeclared 36 (po
   unreasoned-at k e = rw (← is, e)
 
 module _ (m : Monitor) (i : ℕ) {t : Target} where
-  pub targeted-at : m .plant .units ≤ i → t ≡ targetAt m (aggregateAt (m .plant) i)
+  pub targeted-at : m .roster .units ≤ i → t ≡ targetAt m (i - m .roster .units)
       → _≡_ {A = Targeted} (record { verdict = Accept; target = t; monitor = m }) (targetedAt m i)
-  unfolding targetedAt
-  targeted-at l e = rw (le-leb (m .plant .units) i l, e)
+  unfolding targetedAt plantIn
+  targeted-at l e = rw (le-leb (m .roster .units) i l, e)
 
-  pub untargeted-at : i < m .plant .units → t ≡ noTarget
+  pub untargeted-at : i < m .roster .units → t ≡ noTarget
       → _≡_ {A = Targeted} (record { verdict = Refuse 10; target = t; monitor = m }) (targetedAt m i)
-  unfolding targetedAt
-  untargeted-at l e = rw (lt-leb (m .plant .units) i l, e)
+  unfolding targetedAt plantIn
+  untargeted-at l e = rw (lt-leb (m .roster .units) i l, e)

@@ -4,14 +4,14 @@ use mathlib.Core.Bool.{true, _||_, not}
 use mathlib.Core.List.{_∷_}
 use Prim.Native.Nat.{ℕ}
 use lib.Dec.{eqb}
-use Rattle.plants.specs.declared.Plant.{Plant}
+use Rattle.plants.specs.Plants.{Plant, place}
 use Rattle.targets.specs.Targets.{noTarget}
 use Rattle.targets.specs.declared.Target.{Target}
 use Rattle.points.specs.Points.{normal, spanOf}
 use Rattle.points.specs.declared.Reason.the-variants.{ByOperator}
 use Rattle.points.specs.declared.Point.{Point}
-use Rattle.intervals.specs.Plants.{place, named, isUnidirectionalAt}
-use Rattle.intervals.specs.Monitors.{targetAt, pointAt, soundOf}
+use Rattle.intervals.specs.Plants.{named, isUnidirectionalAt}
+use Rattle.intervals.specs.Monitors.{plantIn, targetAt, pointAt, soundOf}
 use Rattle.intervals.specs.Intervals.{decide, verdictNumber, Answered}
 use Rattle.intervals.specs.declared.Monitor.{Monitor}
 use Rattle.intervals.specs.declared.Stepped.{Stepped}
@@ -72,12 +72,12 @@ target-told (Refuse k) t = refl
 module _ (m : Monitor) (p : ℕ) where
   goes : (op : Operator)
       → Goes (operatorVerdict op m p)
-      ((20, not (soundOf m)) ∷ (10, not (named (m .plant) p)) ∷ ownRefusals (m .plant) (place p) op (pointAt m (place p)))
+      ((20, not (soundOf m)) ∷ (10, not (named (plantIn m) p)) ∷ ownRefusals (plantIn m) (place p) op (pointAt m (place p)))
   unfolding operatorVerdict
-  goes op = unless 20 (operator-goes (m .plant) op p (pointAt m (place p))) (soundOf m)
+  goes op = unless 20 (operator-goes (plantIn m) op p (pointAt m (place p))) (soundOf m)
 
   pub operator-told : (op : Operator) → verdictNumber (operatorVerdict op m p) ≡ 0 → operatorVerdict op m p ≡ Accept
-  operator-told op = told _ (goes op) (own-without (m .plant) (place p) op (pointAt m (place p)) .0)
+  operator-told op = told _ (goes op) (own-without (plantIn m) (place p) op (pointAt m (place p)) .0)
 
   pub operator-answered : (op : Operator) (r : Stepped) → r ≡ operatedOf op m p → Answered (operatedOf op m p) (operatorRefusal op m p) r
   unfolding operatedOf operatorRefusal
@@ -112,5 +112,5 @@ module _ (m : Monitor) (p : ℕ) where
       record {
         result = e;
         number = rw e (goes (ask target) .number);
-        told = rw e (target-told (operatorVerdict (ask target) m p) (targetAt m (aggregateAt (m .plant) (place p))));
+        told = rw e (target-told (operatorVerdict (ask target) m p) (targetAt m (aggregateAt (plantIn m) (place p))));
       }

@@ -8,7 +8,7 @@ use lib.Dec.{leb, eqb}
 use lib.IntN.{ℤ, natAbs}
 use lib.ListN.{set}
 use Rattle.trace.specs.Refusals.{Refusal, firstOf}
-use Rattle.plants.specs.declared.Plant.{Plant}
+use Rattle.plants.specs.Plants.{Plant, place}
 use Rattle.marks.specs.Levels.{isDispatchable}
 use Rattle.targets.specs.Targets.{noTarget}
 use Rattle.targets.specs.declared.Target.{Target}
@@ -17,8 +17,8 @@ use Rattle.points.specs.declared.Span.{Span}
 use Rattle.points.specs.declared.Reason.{Reason}
 use Rattle.points.specs.declared.Reason.the-variants.{ByOperator}
 use Rattle.points.specs.declared.Point.{Point}
-use Rattle.intervals.specs.Plants.{place, named, isUnidirectionalAt}
-use Rattle.intervals.specs.Monitors.{targetAt, pointAt, soundOf}
+use Rattle.intervals.specs.Plants.{named, isUnidirectionalAt}
+use Rattle.intervals.specs.Monitors.{plantIn, targetAt, pointAt, soundOf}
 use Rattle.intervals.specs.Intervals.{decide, verdictNumber}
 use Rattle.intervals.specs.declared.Monitor.{Monitor}
 use Rattle.intervals.specs.declared.Verdict.{Verdict}
@@ -84,10 +84,10 @@ judgeOperator plant op p q = cond (named plant p) (permit plant (place p) op q) 
 
 -- 20 and 10, which every operator call is tested for
 unfoldable pub locateOf : Monitor → ℕ → Verdict
-locateOf m p = cond (soundOf m) (cond (named (m .plant) p) Accept (Refuse 10)) (Refuse 20)
+locateOf m p = cond (soundOf m) (cond (named (plantIn m) p) Accept (Refuse 10)) (Refuse 20)
 
 unfoldable pub operatorVerdict : Operator → Monitor → ℕ → Verdict
-operatorVerdict op m p = cond (soundOf m) (judgeOperator (m .plant) op p (pointAt m (place p))) (Refuse 20)
+operatorVerdict op m p = cond (soundOf m) (judgeOperator (plantIn m) op p (pointAt m (place p))) (Refuse 20)
 
 -- a call's own refusals, on the record of the point that it names: "the list above in rising number", here 10 and 11, "then these", here 22, 23
 -- and 36
@@ -105,15 +105,15 @@ unfoldable pub operatorRefusal : Operator → Monitor → ℕ → ℕ
 operatorRefusal op m p =
     firstOf
     ((20, not (soundOf m))
-    ∷ (10, not (named (m .plant) p))
-    ∷ ownRefusals (m .plant) (place p) op (pointAt m (place p)))
+    ∷ (10, not (named (plantIn m) p))
+    ∷ ownRefusals (plantIn m) (place p) op (pointAt m (place p)))
 
 -- the state with one point's record written
 unfoldable pub stored : Monitor → ℕ → Point → Monitor
 stored m i q =
     record {
       loaded = m .loaded;
-      plant = m .plant;
+      roster = m .roster;
       started = m .started;
       last = m .last;
       kept = m .kept;
@@ -129,7 +129,7 @@ operatedOf op m p =
 -- at a place where a point's record stands
 unfoldable pub operatedAt : Operator → Monitor → ℕ → Stepped
 operatedAt op m i =
-    let v = permit (m .plant) i op (pointAt m i) in
+    let v = permit (plantIn m) i op (pointAt m i) in
     record { verdict = v; monitor = decide v (λ k. m) (stored m i (change op (pointAt m i))) }
 
 abbrev pub declareAt : Monitor → ℕ → ℤ → Stepped
@@ -148,8 +148,8 @@ reasonedAt m i =
 
 unfoldable pub targetedAt : Monitor → ℕ → Targeted
 targetedAt m i =
-    let v = permitTarget (m .plant) i in
-    record { verdict = v; target = decide v (λ k. noTarget) (targetAt m (aggregateAt (m .plant) i)); monitor = m }
+    let v = permitTarget (plantIn m) i in
+    record { verdict = v; target = decide v (λ k. noTarget) (targetAt m (aggregateAt (plantIn m) i)); monitor = m }
 
 abbrev pub declareOf : Monitor → ℕ → ℤ → Stepped
 declareOf m p level = operatedOf (declare level) m p
@@ -175,7 +175,7 @@ reasonedOf m p =
 unfoldable pub targetedOf : Monitor → ℕ → Targeted
 targetedOf m p =
     let v = operatorVerdict (ask target) m p in
-    record { verdict = v; target = decide v (λ k. noTarget) (targetAt m (aggregateAt (m .plant) (place p))); monitor = m }
+    record { verdict = v; target = decide v (λ k. noTarget) (targetAt m (aggregateAt (plantIn m) (place p))); monitor = m }
 
 -- the values of a look, status, runs and level: the point's own, "zero values" where it is refused
 unfoldable pub lookValues : Verdict → Point → Point
@@ -213,4 +213,4 @@ targetTold (Refuse k) t = noTarget
 pub record Targets (m : Monitor) (p : ℕ) (r : Targeted) : Type 0 where
   pub result : r ≡ targetedOf m p
   pub number : verdictNumber (r .verdict) ≡ operatorRefusal (ask target) m p
-  pub told : r .target ≡ targetTold (r .verdict) (targetAt m (aggregateAt (m .plant) (place p)))
+  pub told : r .target ≡ targetTold (r .verdict) (targetAt m (aggregateAt (plantIn m) (place p)))

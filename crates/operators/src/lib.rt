@@ -2,7 +2,7 @@
 use intervals::Monitor;
 use intervals::Stepped;
 use intervals::Verdict;
-use plants::Plant;
+use plants::Roster;
 use points::Point;
 use points::Reason;
 use targets::Target;
@@ -10,6 +10,7 @@ ghost use mathlib.Core.Path.{_≡_};
 ghost use mathlib.Core.Bool.{_&&_};
 ghost use Prim.Native.Nat.{_+_, _≤_, _<_};
 ghost use lib.Dec.{leb};
+ghost use Rattle.plants.specs.Rosters.{held};
 ghost use Rattle.intervals.specs.Plants.{isUnidirectionalAt};
 ghost use Rattle.intervals.specs.Intervals.{Answered};
 ghost use Rattle.operators.specs.Operators.{declare, reinstate, operatorRefusal, allowedLevel, permitDeclare, permitDeclared, locateOf, stored};
@@ -52,20 +53,20 @@ fn locate(m: Monitor, point: u32) -> Verdict
     if !intervals::is_sound(m) {
         return Verdict::Refuse(20);
     }
-    let plant = m.plant;
-    if !is_named(plant.units, plant.aggregates, point) {
+    let roster = m.roster;
+    if !is_named(roster.units, roster.aggregates, point) {
         return Verdict::Refuse(10);
     }
     Verdict::Accept
 }
 
 // Whether the point at place i is that of a unit of kind 1, 2 or 4.
-fn is_unidirectional_at(plant: Plant, i: usize) -> bool
-    requires { ⌜ plant .units ≤ 64 ⌝ }
-    ensures { λ r. ⌜ r ≡ isUnidirectionalAt plant i ⌝ }
+fn is_unidirectional_at(roster: Roster, i: usize) -> bool
+    requires { ⌜ roster .units ≤ 64 ⌝ }
+    ensures { λ r. ⌜ r ≡ isUnidirectionalAt (held roster) i ⌝ }
 {
-    if i < plant.units {
-        return telemetry::is_unidirectional(plant.kinds[i]);
+    if i < roster.units {
+        return telemetry::is_unidirectional(roster.kinds[i]);
     }
     false
 }
@@ -111,11 +112,11 @@ fn store(m: Monitor, i: usize, q: Point) -> Monitor
 }
 
 fn declare_at(m: Monitor, i: usize, level: i32) -> Stepped
-    requires { ⌜ (i < 80) × (m .plant .units ≤ 64) ⌝ }
+    requires { ⌜ (i < 80) × (m .roster .units ≤ 64) ⌝ }
     ensures { λ r. ⌜ r ≡ declareAt m i level ⌝ }
 {
     let q = m.points[i];
-    let verdict = permit_declare(is_unidirectional_at(m.plant, i), level, q);
+    let verdict = permit_declare(is_unidirectional_at(m.roster, i), level, q);
     match verdict {
         Verdict::Accept => Stepped {
             verdict,
@@ -238,11 +239,11 @@ pub fn reason(m: Monitor, point: u32) -> Reasoned
 
 // 10 once more: the point of a unit has no target of its own.
 fn target_at(m: Monitor, i: usize) -> Targeted
-    requires { ⌜ i < m .plant .units + 16 ⌝ }
+    requires { ⌜ i < m .roster .units + 16 ⌝ }
     ensures { λ r. ⌜ r ≡ targetedAt m i ⌝ }
 {
-    let plant = m.plant;
-    if i < plant.units {
+    let roster = m.roster;
+    if i < roster.units {
         return Targeted {
             verdict: Verdict::Refuse(10),
             target: targets::no_target(),
@@ -251,7 +252,7 @@ fn target_at(m: Monitor, i: usize) -> Targeted
     }
     Targeted {
         verdict: Verdict::Accept,
-        target: m.targets[i - plant.units],
+        target: m.targets[i - roster.units],
         monitor: m,
     }
 }

@@ -1,16 +1,18 @@
 -- What 02, 2026-03 says of a pass, for every list of members: it goes to its end, or to the first unreadable one. Assumes nothing.
-use mathlib.Core.Path.{_≡_, refl, sym, ap, _∙_}
+use mathlib.Core.Path.{_≡_, refl, sym, _∙_}
 use mathlib.Core.Bool.{Bool, true, false, _&&_}
-use mathlib.Core.List.{List, [], _∷_, _++_}
+use mathlib.Core.List.{List, [], _∷_, _++_, map}
 use Prim.Native.Nat.{ℕ, suc, _+_, _≤_}
 use native.Mathlib.Omega.{arith}
 use lib.ListN.{length}
 use Rattle.trace.proofs.Tests.{and-l, and-r, chosen}
 use Rattle.marks.specs.declared.Sight.{Sight}
 use Rattle.aggregates.specs.Aggregates.{addMember, addMembers, noSums}
+use Rattle.aggregates.specs.Views.{viewOf, addView}
 use Rattle.aggregates.specs.declared.Sums.{Sums}
+use Rattle.aggregates.proofs.Views.{add-views}
 use Rattle.passes.specs.Passes.{isReadable, lookedAt, passOver, whole, early}
-use Rattle.passes.proofs.Looks.{passFrom, member-readable, from-start, from-end, from-more, from-unreadable}
+use Rattle.passes.proofs.Looks.{view-read, unreadable-found, views-stay, unreadable-blank}
 
 abbrev pub allReadable : List Sight → Bool
 allReadable [] = true
@@ -31,42 +33,40 @@ members-are (v ∷ vs) = go vs (isReadable (v .line)) refl (members-are vs)
     go later true e (readable _ r) = readable (v ∷ later) (rw (e, r))
     go later true e (unreadable before w after r u) = unreadable (v ∷ before) w after (rw (e, r)) u
 
--- ---- from any sums and count on
+-- ---- how far, and with what sums
 
-from-whole : (s : Sums) (looked : ℕ) (members : List Sight) → allReadable members ≡ true
-    → passFrom s looked members ≡ whole (addMembers s members) (looked + length members)
-from-whole s looked [] e = let n : looked + 0 ≡ looked = omega arith in from-end s looked ∙ rw n
-from-whole s looked (v ∷ vs) e =
-    let n : looked + 1 + length vs ≡ looked + length (v ∷ vs) = omega arith in
-    from-more s looked v vs (and-l _ _ e)
-    ∙ from-whole (addMember s v) (looked + 1) vs (and-r (isReadable (v .line)) _ e)
-    ∙ ap (whole (addMembers s (v ∷ vs))) n
+looked-whole : (members : List Sight) → allReadable members ≡ true → lookedAt members ≡ length members
+unfolding lookedAt
+looked-whole [] e = refl
+looked-whole (v ∷ vs) e = rw (and-l (isReadable (v .line)) (allReadable vs) e, looked-whole vs (and-r (isReadable (v .line)) _ e))
 
-from-early : (s : Sums) (looked : ℕ) (before : List Sight) (v : Sight) (after : List Sight) → s .flags .readable ≡ true
-    → allReadable before ≡ true → isReadable (v .line) ≡ false
-    → passFrom s looked (before ++ (v ∷ after)) ≡ early (looked + length before + 1)
-from-early s looked [] v after r e u = let n : looked + 0 ≡ looked = omega arith in from-unreadable s looked v after r u ∙ rw n
-from-early s looked (b ∷ bs) v after r e u =
-    let here : isReadable (b .line) ≡ true = and-l _ _ e in
-    let n : looked + 1 + length bs + 1 ≡ looked + length (b ∷ bs) + 1 = omega arith in
-    from-more s looked b (bs ++ (v ∷ after)) here
-    ∙ from-early (addMember s b) (looked + 1) bs v after (member-readable s b r ∙ here) (and-r (isReadable (b .line)) _ e) u
-    ∙ ap early n
+module _ (v : Sight) (after : List Sight) (u : isReadable (v .line) ≡ false) where
+  looked-early : (before : List Sight) → allReadable before ≡ true → lookedAt (before ++ (v ∷ after)) ≡ length before + 1
+  unfolding lookedAt
+  looked-early [] e = rw u
+  looked-early (b ∷ bs) e =
+      let n : suc (length bs + 1) ≡ suc (length bs) + 1 = omega arith in
+      rw (and-l (isReadable (b .line)) (allReadable bs) e, looked-early bs (and-r (isReadable (b .line)) _ e), n)
+
+  unreadable-sums : (s : Sums) (before : List Sight) → addMembers s (before ++ (v ∷ after)) .flags .readable ≡ false
+  unreadable-sums s [] =
+      rw (sym (add-views s (v ∷ after)))
+      (views-stay (addView s (viewOf v)) (map viewOf after) (unreadable-found s (viewOf v) (view-read v ∙ u)))
+  unreadable-sums s (b ∷ bs) = unreadable-sums (addMember s b) bs
 
 -- ---- the request's sentences
 
 -- "or the length of the chain if there is none"; the mark is that of the sums over all
 pub pass-whole : (members : List Sight) → allReadable members ≡ true → passOver members ≡ whole (addMembers noSums members) (length members)
-pass-whole members e =
-    let n : 0 + length members ≡ length members = omega arith in
-    sym (from-start members) ∙ from-whole noSums 0 members e ∙ ap (whole (addMembers noSums members)) n
+unfolding passOver whole
+pass-whole members e = rw (looked-whole members e)
 
 -- "the first unreadable one's place in the chain"; BLANK, whatever comes before it and after it
 pub pass-early : (before : List Sight) (v : Sight) (after : List Sight) → allReadable before ≡ true → isReadable (v .line) ≡ false
     → passOver (before ++ (v ∷ after)) ≡ early (length before + 1)
+unfolding passOver early
 pass-early before v after e u =
-    let n : 0 + length before + 1 ≡ length before + 1 = omega arith in
-    sym (from-start (before ++ (v ∷ after))) ∙ from-early noSums 0 before v after refl e u ∙ ap early n
+    rw (looked-early v after u before e, unreadable-blank (addMembers noSums (before ++ (v ∷ after))) (unreadable-sums v after u noSums before))
 
 -- ---- so many at most, and at least one where there is a member
 

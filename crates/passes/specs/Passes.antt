@@ -25,7 +25,7 @@ lookedAt (v ∷ vs) = cond (isReadable (v .line)) (suc (lookedAt vs)) 1
 unfoldable pub passOver : List Sight → Pass
 passOver members = record { assessment = aggregateAssessment members; looked = lookedAt members }
 
--- ---- how the code comes to it; `proofs/Passes.antt` has why
+-- ---- how the code comes to it; `proofs/Looks.antt` has why
 
 -- a pass that met no unreadable member
 unfoldable pub whole : Sums → ℕ → Pass

@@ -1,53 +1,48 @@
--- What is seen of the units, in a list by place, a unit's number less one. The pass promises its answer for the members as they stand in
--- this list; `pass-in` of `intervals/proofs/Surveys.antt` shows that in an interval these are the members as its definitions see them.
+-- What is seen of the units, in a list by place, as the sums take it, and the passes over every aggregate's stretch of the members. They
+-- promise their answer for the members as they stand in this list; `pass-of` of `proofs/Looks.antt` has that it is the pass over the members
+-- themselves where the list has their views.
 use mathlib.Core.Path.{_≡_}
-use mathlib.Core.Bool.{true, false}
-use mathlib.Core.List.{List, map}
-use Prim.Native.Nat.{ℕ, _-_, _<_}
-use lib.Ieee.{nan}
-use lib.IntN.{pos}
-use lib.ListN.{getD}
-use Rattle.telemetry.specs.declared.Line.the-variants.{Readable}
-use Rattle.plants.specs.Chains.{membersOf}
-use Rattle.plants.specs.Plants.{plantSound}
-use Rattle.plants.specs.declared.Plant.{Plant}
-use Rattle.marks.specs.KeptLines.{nothingKept}
-use Rattle.marks.specs.Bounds.{SmallSight}
-use Rattle.marks.specs.declared.Sight.{Sight}
+use mathlib.Core.Bool.{true, cond}
+use mathlib.Core.List.{List, [], _∷_, map}
+use Prim.Native.Nat.{ℕ, suc, _<_}
+use lib.ListN.{getD, replicate}
+use Rattle.trace.specs.Sweeps.{sweep}
+use Rattle.plants.specs.Rosters.{stretchOf, rosterSound}
+use Rattle.plants.specs.declared.Roster.{Roster}
+use Rattle.marks.specs.Assessments.{without}
+use Rattle.marks.specs.declared.Mark.the-variants.{Off}
+use Rattle.aggregates.specs.Aggregates.{noSums, sumsAssessment}
+use Rattle.aggregates.specs.Views.{noView, addViews, SmallView}
+use Rattle.aggregates.specs.declared.View.{View}
+use Rattle.passes.specs.declared.Pass.{Pass}
 
--- what stands past a list's end in the checker's account of an array: no index is ever there
-abbrev pub anySight : Sight
-anySight =
-    record {
-      kind = 0;
-      line =
-          Readable
-          (record {
-            quality = 0;
-            mode = 0;
-            capped = false;
-            target = pos 0;
-            availability = 0;
-            raise = 0;
-            lower = 0;
-            «bid_up» = 0;
-            «bid_down» = 0;
-            readings = record { power = nan; «ramp_up» = nan; «ramp_down» = nan };
-          });
-      kept = nothingKept;
-    }
-
-unfoldable pub seenAt : List Sight → ℕ → Sight
-seenAt seen i = getD seen i anySight
-
-abbrev pub unitSeen : List Sight → ℕ → Sight
-unitSeen seen unit = seenAt seen (unit - 1)
+-- zeros stand past a list's end in the checker's account of an array: no index is ever there
+unfoldable pub seenAt : List View → ℕ → View
+seenAt seen i = getD seen i noView
 
 -- the members of aggregate j, counted from 0, as they are seen, in the order of its chain
-unfoldable pub membersSeen : Plant → List Sight → ℕ → List Sight
-membersSeen plant seen j = map (unitSeen seen) (membersOf plant j)
+unfoldable pub membersSeen : Roster → List View → ℕ → List View
+membersSeen roster seen j = map (seenAt seen) (stretchOf roster j)
 
 -- indices in range, and small numbers in what is seen
-pub record Seen (plant : Plant) (seen : List Sight) : Type 0 where
-  pub sound : plantSound plant ≡ true
-  pub small : (i : ℕ) → i < plant .units → SmallSight (seenAt seen i)
+pub record Seen (roster : Roster) (seen : List View) : Type 0 where
+  pub sound : rosterSound roster ≡ true
+  pub small : (i : ℕ) → i < roster .units → SmallView (seenAt seen i)
+
+-- `lookedAt` and `passOver`, by what is seen
+unfoldable pub lookedIn : List View → ℕ
+lookedIn [] = 0
+lookedIn (v ∷ vs) = cond (v .readable) (suc (lookedIn vs)) 1
+
+unfoldable pub passFrom : List View → Pass
+passFrom views = record { assessment = sumsAssessment (addViews noSums views); looked = lookedIn views }
+
+abbrev pub noPass : Pass
+noPass = record { assessment = without Off; looked = 0 }
+
+abbrev pub passAt : Roster → List View → ℕ → Pass
+passAt roster seen j = passFrom (membersSeen roster seen j)
+
+-- of each aggregate, and `noPass` past the last
+unfoldable pub passesOf : Roster → List View → List Pass
+passesOf roster seen = sweep (passAt roster seen) (roster .aggregates) (replicate 16 noPass)

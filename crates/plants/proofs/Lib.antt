@@ -1,5 +1,3 @@
 -- Laws of `specs/`, each shown once.
 pub mod Soundness
-pub mod Chains
-pub mod Walks
-pub mod Members
+pub mod Stretches

@@ -1,16 +1,14 @@
--- What a sound plant gives at each index. Assumes nothing.
-use mathlib.Core.Path.{_≡_}
-use mathlib.Core.Bool.{Bool, true, _&&_}
-use Prim.Native.Nat.{ℕ, _≤_, _<_}
-use borrow.Author.Tests.{leb-true, le-leb}
+-- What a sound roster gives at each index. Assumes nothing.
+use mathlib.Core.Path.{_≡_, refl, sym, _∙_}
+use mathlib.Core.Bool.{Bool, true, false, _&&_}
+use Prim.Native.Nat.{ℕ, _+_, _≤_, _<_}
+use borrow.Author.Tests.{leb-true, ltb-true, le-leb}
 use lib.Dec.{leb}
 use lib.ListN.{getD}
-use Rattle.trace.specs.Sweeps.{every}
 use Rattle.trace.proofs.Sweeps.{every-at}
 use Rattle.trace.proofs.Tests.{and-l, and-r}
-use Rattle.plants.specs.declared.Plant.{Plant}
-use Rattle.plants.specs.Rules.{countsIn, nextAt, headAt}
-use Rattle.plants.specs.Plants.{kindsKnown, indicesIn, plantSound}
+use Rattle.plants.specs.declared.Roster.{Roster}
+use Rattle.plants.specs.Rosters.{startOf, countOf, noRoster, countsIn, kindsKnown, placeAt, placesIn, stretchAt, stretchesIn, rosterSound}
 
 -- ---- counts
 
@@ -31,53 +29,74 @@ module _ (units aggregates : ℕ) where
     pub counts-aggregates : aggregates ≤ 16
     counts-aggregates = leb-true aggregates 16 (and-r (leb 1 units && leb units 64) (leb aggregates 16) e)
 
--- ---- a plant whose indices are in range
+  -- the same of a test that the code has made
+  module _ (t : Bool) (e : t ≡ countsIn units aggregates) (taken : t ≡ true) where
+    pub tested-units : units ≤ 64
+    tested-units = counts-units (sym e ∙ taken)
 
-module _ (p : Plant) (inside : indicesIn p ≡ true) where
-  abbrev nexts : ℕ → Bool
-  nexts = nextAt (p .units) (p .next)
+    pub tested-aggregates : aggregates ≤ 16
+    tested-aggregates = counts-aggregates (sym e ∙ taken)
 
-  abbrev heads : ℕ → Bool
-  heads = headAt (p .units) (p .heads)
+-- ---- a sound roster
 
-  pub next-inside : (i : ℕ) → i < p .units → getD (p .next) i 0 ≤ p .units
-  unfolding indicesIn
-  next-inside i l = leb-true _ _ (every-at nexts (p .units) (and-l (every nexts (p .units)) (every heads (p .aggregates)) inside) i l)
+pub sound-by : (r : Roster) → countsIn (r .units) (r .aggregates) ≡ true → kindsKnown (r .kinds) (r .units) ≡ true
+    → placesIn (r .members) (r .units) ≡ true → stretchesIn (r .starts) (r .counts) (r .aggregates) ≡ true → rosterSound r ≡ true
+unfolding rosterSound
+sound-by r counts kinds places stretches = rw (counts, kinds, places, stretches)
 
-  head-test : (j : ℕ) → j < p .aggregates → heads j ≡ true
-  unfolding indicesIn
-  head-test j l = every-at heads (p .aggregates) (and-r (every nexts (p .units)) (every heads (p .aggregates)) inside) j l
+module _ (r : Roster) (t : Bool) (e : t ≡ countsIn (r .units) (r .aggregates)) where
+  pub sound-tested : (kinds places stretches : Bool) → t ≡ true → kinds ≡ kindsKnown (r .kinds) (r .units)
+      → places ≡ placesIn (r .members) (r .units) → stretches ≡ stretchesIn (r .starts) (r .counts) (r .aggregates)
+      → (kinds && (places && stretches)) ≡ rosterSound r
+  unfolding rosterSound
+  sound-tested kinds places stretches taken k p s = rw (sym e ∙ taken, k, p, s)
 
-  module _ (j : ℕ) (l : j < p .aggregates) where
-    abbrev head : ℕ
-    head = getD (p .heads) j 0
+  pub unsound-tested : t ≡ false → false ≡ rosterSound r
+  unfolding rosterSound
+  unsound-tested left = rw (sym e ∙ left)
 
-    pub head-least : 1 ≤ getD (p .heads) j 0
-    head-least = leb-true 1 head (and-l (leb 1 head) (leb head (p .units)) (head-test j l))
+pub no-roster-unsound : rosterSound noRoster ≡ false
+unfolding rosterSound noRoster
+no-roster-unsound = refl
 
-    pub head-inside : getD (p .heads) j 0 ≤ p .units
-    head-inside = leb-true head (p .units) (and-r (leb 1 head) (leb head (p .units)) (head-test j l))
-
--- ---- a sound plant
-
-pub sound-by : (p : Plant) → countsIn (p .units) (p .aggregates) ≡ true → kindsKnown p ≡ true → indicesIn p ≡ true → plantSound p ≡ true
-unfolding plantSound
-sound-by p c k i = rw (c, k, i)
-
-module _ (p : Plant) (sound : plantSound p ≡ true) where
+module _ (r : Roster) (sound : rosterSound r ≡ true) where
   abbrev counts : Bool
-  counts = countsIn (p .units) (p .aggregates)
+  counts = countsIn (r .units) (r .aggregates)
 
-  pub sound-counts : counts ≡ true
-  unfolding plantSound
-  sound-counts = and-l counts (kindsKnown p && indicesIn p) sound
+  abbrev kinds : Bool
+  kinds = kindsKnown (r .kinds) (r .units)
 
-  pub sound-units : p .units ≤ 64
-  sound-units = counts-units (p .units) (p .aggregates) sound-counts
+  abbrev places : Bool
+  places = placesIn (r .members) (r .units)
 
-  pub sound-aggregates : p .aggregates ≤ 16
-  sound-aggregates = counts-aggregates (p .units) (p .aggregates) sound-counts
+  abbrev stretches : Bool
+  stretches = stretchesIn (r .starts) (r .counts) (r .aggregates)
 
-  pub sound-indices : indicesIn p ≡ true
-  unfolding plantSound
-  sound-indices = and-r (kindsKnown p) (indicesIn p) (and-r counts (kindsKnown p && indicesIn p) sound)
+  pub sound-counts : countsIn (r .units) (r .aggregates) ≡ true
+  unfolding rosterSound
+  sound-counts = and-l counts (kinds && (places && stretches)) sound
+
+  pub sound-least : 1 ≤ r .units
+  sound-least = counts-least (r .units) (r .aggregates) sound-counts
+
+  pub sound-units : r .units ≤ 64
+  sound-units = counts-units (r .units) (r .aggregates) sound-counts
+
+  pub sound-aggregates : r .aggregates ≤ 16
+  sound-aggregates = counts-aggregates (r .units) (r .aggregates) sound-counts
+
+  pub sound-kinds : kindsKnown (r .kinds) (r .units) ≡ true
+  unfolding rosterSound
+  sound-kinds = and-l kinds (places && stretches) (and-r counts (kinds && (places && stretches)) sound)
+
+  inside : (places && stretches) ≡ true
+  unfolding rosterSound
+  inside = and-r kinds (places && stretches) (and-r counts (kinds && (places && stretches)) sound)
+
+  pub place-inside : (k : ℕ) → k < 64 → getD (r .members) k 0 < r .units
+  unfolding placesIn
+  place-inside k l = ltb-true _ _ (every-at (placeAt (r .members) (r .units)) 64 (and-l places stretches inside) k l)
+
+  pub stretch-inside : (j : ℕ) → j < r .aggregates → startOf r j + countOf r j ≤ 64
+  unfolding stretchesIn
+  stretch-inside j l = leb-true _ _ (every-at (stretchAt (r .starts) (r .counts)) (r .aggregates) (and-r places stretches inside) j l)

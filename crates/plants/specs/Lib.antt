@@ -1,5 +1,3 @@
--- What the contracts cite. A reader has to believe Chains, Rules and Plants; Walks says what the code keeps on its way.
-pub mod Chains
-pub mod Rules
+-- What the contracts cite: a plant as the rules speak of it, and as a monitor holds it.
 pub mod Plants
-pub mod Walks
+pub mod Rosters

@@ -1,13 +1,8 @@
-// A plant: what a register says of units, kinds and chains, the tests of it, and the walk along its chains (01, "The register"; 02, 2026-01).
-pub mod visits;
-
+// What a monitor holds of a register: run lengths, units, kinds, and each aggregate's members side by side (01, "The register"; 02,
+// 2026-08).
 ghost use mathlib.Core.Path.{_≡_};
-ghost use mathlib.Core.Bool.{_&&_};
 ghost use Prim.Native.Nat.{_≤_, _<_};
-ghost use lib.Dec.{leb};
-ghost use Rattle.trace.specs.Sweeps.{every};
-ghost use Rattle.plants.specs.Rules.{countsIn, kindKnown, nextAt, headAt};
-ghost use Rattle.plants.specs.Plants.{noPlant, kindsKnown, indicesIn, restEnds, membersScheduled, plantSound};
+ghost use Rattle.plants.specs.Rosters.{noRoster, countsIn, kindKnown, kindsKnown, placesIn, stretchIn, stretchesIn, rosterSound};
 
 // Run lengths: to Not-Responding, to Pending, to declaration.
 pub struct Lengths {
@@ -16,21 +11,24 @@ pub struct Lengths {
     pub declaration: u8,
 }
 
-// What a register says. A unit's index is its number less one; 0 ends a chain. Entries past the counts are 0 and false.
-pub struct Plant {
+// A unit's place is its number less one. `members` has the places of all members, aggregate after aggregate, each in the order of its chain:
+// aggregate j has `counts[j]` of them, from `starts[j]` on. `chained` is whether a unit is a member of some aggregate. Entries past the
+// counts are 0 and false.
+pub struct Roster {
     pub units: usize,
     pub aggregates: usize,
     pub small: Lengths,
     pub large: Lengths,
     pub kinds: [u8; 64],
-    pub next: [u8; 64],
-    pub heads: [u8; 16],
     pub chained: [bool; 64],
+    pub members: [u8; 64],
+    pub starts: [u8; 16],
+    pub counts: [u8; 16],
 }
 
-// A plant of zeros.
-pub fn no_plant() -> Plant
-    ensures { λ r. ⌜ r ≡ noPlant ⌝ }
+// A roster of zeros.
+pub fn no_roster() -> Roster
+    ensures { λ r. ⌜ r ≡ noRoster ⌝ }
 {
     let none = Lengths {
         not_responding: 0,
@@ -38,18 +36,20 @@ pub fn no_plant() -> Plant
         declaration: 0,
     };
     let kinds = [0u8; 64];
-    let next = [0u8; 64];
-    let heads = [0u8; 16];
     let chained = [false; 64];
-    Plant {
+    let members = [0u8; 64];
+    let starts = [0u8; 16];
+    let counts = [0u8; 16];
+    Roster {
         units: 0,
         aggregates: 0,
         small: none,
         large: none,
         kinds,
-        next,
-        heads,
         chained,
+        members,
+        starts,
+        counts,
     }
 }
 
@@ -71,104 +71,65 @@ fn known_kind(kind: u8) -> bool
     (1 <= kind) & (kind <= 4)
 }
 
-pub fn known_kinds(plant: Plant) -> bool
-    requires { ⌜ plant .units ≤ 64 ⌝ }
-    ensures { λ r. ⌜ r ≡ kindsKnown plant ⌝ }
+pub fn known_kinds(kinds: [u8; 64], units: usize) -> bool
+    requires { ⌜ units ≤ 64 ⌝ }
+    ensures { λ r. ⌜ r ≡ kindsKnown kinds units ⌝ }
 {
-    let count = plant.units;
-    let mut ok = true;
-    let mut i = 0;
-    while i < count {
-        ok &= known_kind(plant.kinds[i]);
-        i += 1;
-    }
-    ok
-}
-
-fn next_in(next: u8, units: usize) -> bool
-    ensures { λ r. ⌜ r ≡ leb next units ⌝ }
-{
-    wide(next) <= units
-}
-
-fn nexts_in(plant: Plant) -> bool
-    requires { ⌜ plant .units ≤ 64 ⌝ }
-    ensures { λ r. ⌜ r ≡ every (nextAt (plant .units) (plant .next)) (plant .units) ⌝ }
-{
-    let units = plant.units;
     let mut ok = true;
     let mut i = 0;
     while i < units {
-        ok &= next_in(plant.next[i], units);
+        ok &= known_kind(kinds[i]);
         i += 1;
     }
     ok
 }
 
-fn head_in(head: u8, units: usize) -> bool
-    ensures { λ r. ⌜ r ≡ (leb 1 head && leb head units) ⌝ }
+// Every entry of the list is the place of a unit, past the last stretch too.
+fn places_in(members: [u8; 64], units: usize) -> bool
+    ensures { λ r. ⌜ r ≡ placesIn members units ⌝ }
 {
-    (1 <= head) & next_in(head, units)
+    let mut ok = true;
+    let mut k = 0;
+    while k < 64 {
+        ok &= wide(members[k]) < units;
+        k += 1;
+    }
+    ok
 }
 
-fn heads_in(plant: Plant) -> bool
-    requires { ⌜ plant .aggregates ≤ 16 ⌝ }
-    ensures { λ r. ⌜ r ≡ every (headAt (plant .units) (plant .heads)) (plant .aggregates) ⌝ }
+// A stretch ends within the list.
+fn stretch_in(start: u8, count: u8) -> bool
+    ensures { λ r. ⌜ r ≡ stretchIn start count ⌝ }
 {
-    let count = plant.aggregates;
+    wide(start) + wide(count) <= 64
+}
+
+fn stretches_in(starts: [u8; 16], counts: [u8; 16], aggregates: usize) -> bool
+    requires { ⌜ aggregates ≤ 16 ⌝ }
+    ensures { λ r. ⌜ r ≡ stretchesIn starts counts aggregates ⌝ }
+{
     let mut ok = true;
     let mut j = 0;
-    while j < count {
-        ok &= head_in(plant.heads[j], plant.units);
+    while j < aggregates {
+        ok &= stretch_in(starts[j], counts[j]);
         j += 1;
     }
     ok
 }
 
-pub fn indices_in(plant: Plant) -> bool
-    requires { ⌜ (plant .units ≤ 64) × (plant .aggregates ≤ 16) ⌝ }
-    ensures { λ r. ⌜ r ≡ indicesIn plant ⌝ }
+// Whether the roster can be gone over: a call can be handed one that no register gave.
+pub fn roster_sound(roster: Roster) -> bool
+    ensures { λ r. ⌜ r ≡ rosterSound roster ⌝ }
 {
-    nexts_in(plant) & heads_in(plant)
-}
-
-// Every unit that no chain met has next 0.
-pub fn rest_ends(plant: Plant) -> bool
-    requires { ⌜ plant .units ≤ 64 ⌝ }
-    ensures { λ r. ⌜ r ≡ restEnds plant ⌝ }
-{
-    let count = plant.units;
-    let mut ok = true;
-    let mut i = 0;
-    while i < count {
-        ok &= plant.chained[i] | (plant.next[i] == 0);
-        i += 1;
-    }
-    ok
-}
-
-// No unit that a chain met is semi-scheduled.
-pub fn members_scheduled(plant: Plant) -> bool
-    requires { ⌜ plant .units ≤ 64 ⌝ }
-    ensures { λ r. ⌜ r ≡ membersScheduled plant ⌝ }
-{
-    let count = plant.units;
-    let mut ok = true;
-    let mut i = 0;
-    while i < count {
-        ok &= !(plant.chained[i] & (plant.kinds[i] == 4));
-        i += 1;
-    }
-    ok
-}
-
-// Whether the plant can be walked: a call can be handed a plant that no register gave.
-pub fn plant_sound(plant: Plant) -> bool
-    ensures { λ r. ⌜ r ≡ plantSound plant ⌝ }
-{
-    let counts = counts_in(plant.units, plant.aggregates);
-    if counts {
-        known_kinds(plant) & indices_in(plant)
+    let units = roster.units;
+    let aggregates = roster.aggregates;
+    if counts_in(units, aggregates) {
+        let kinds = roster.kinds;
+        let members = roster.members;
+        let starts = roster.starts;
+        let counts = roster.counts;
+        known_kinds(kinds, units)
+            & (places_in(members, units) & stretches_in(starts, counts, aggregates))
     } else {
         false
     }

@@ -22,7 +22,7 @@ use Rattle.points.specs.declared.Point.{Point}
 use Rattle.points.proofs.Lengths16.{length-record}
 use Rattle.intervals.specs.Plants.{total}
 use Rattle.intervals.specs.Assessments.{headerOf, numberOf as intervalNumber}
-use Rattle.intervals.specs.Monitors.{pointAt}
+use Rattle.intervals.specs.Monitors.{plantIn, pointAt}
 use Rattle.intervals.specs.Intervals.{verdictNumber, intervalVerdict, intervalOf, assessmentIn, pointAfter, recordAfter, reportOf}
 use Rattle.intervals.specs.declared.Monitor.{Monitor}
 use Rattle.intervals.specs.declared.Verdict.the-variants.{Accept}
@@ -76,9 +76,9 @@ lines-shown interval k a p held =
 
 -- A step of the program, where the run goes on: its text is a line for each point, which shows the point's values after the interval.
 -- A stored level is an i32.
-pub step-shown : (m : Monitor) (buffer : List ℕ) → ((i : ℕ) → i < total (m .plant) → SFits w32 (pointAt m i .level)) → stepOf m buffer .more ≡ true
+pub step-shown : (m : Monitor) (buffer : List ℕ) → ((i : ℕ) → i < total (plantIn m) → SFits w32 (pointAt m i .level)) → stepOf m buffer .more ≡ true
     → stepOf m buffer .text
-    ≡ records (λ i. shownOf (intervalNumber (headerOf buffer)) (suc i) (assessmentIn m buffer i) (pointAfter m buffer i)) (total (m .plant))
+    ≡ records (λ i. shownOf (intervalNumber (headerOf buffer)) (suc i) (assessmentIn m buffer i) (pointAfter m buffer i)) (total (plantIn m))
 unfolding stepOf takenFrom intervalOf reportOf recordAfter verdictNumber
 step-shown m [] stored e = absurd (let z : _≡_ {A = ℕ} 0 1 = cc in omega arith)
 step-shown m (byte ∷ bytes) stored e =
@@ -86,5 +86,5 @@ step-shown m (byte ∷ bytes) stored e =
     let size = length (blank m) in
     let accepted : intervalVerdict m buffer size ≡ Accept = interval-told m buffer size (eqb-true (verdictNumber (intervalVerdict m buffer size)) 0 e) in
     rw accepted
-    (lines-shown (intervalNumber (headerOf buffer)) (total (m .plant)) (assessmentIn m buffer) (pointAfter m buffer)
+    (lines-shown (intervalNumber (headerOf buffer)) (total (plantIn m)) (assessmentIn m buffer) (pointAfter m buffer)
     λ i l. held-in m (ready m buffer size accepted .sound) buffer i l (stored i l))

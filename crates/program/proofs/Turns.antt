@@ -12,7 +12,7 @@ use Rattle.wire.specs.Fields.{putAt}
 use Rattle.register.specs.Registers.{answerNumber}
 use Rattle.intervals.specs.Plants.{total}
 use Rattle.intervals.specs.Assessments.{headerOf, numberOf}
-use Rattle.intervals.specs.Monitors.{soundOf, unloaded}
+use Rattle.intervals.specs.Monitors.{plantIn, soundOf, unloaded}
 use Rattle.intervals.specs.Intervals.{decide, verdictNumber, judgeInterval, intervalVerdict, intervalOf, monitorAfter, reportAfter, reportOf}
 use Rattle.intervals.specs.declared.Monitor.{Monitor}
 use Rattle.intervals.specs.declared.Stepped.{Stepped}
@@ -82,8 +82,8 @@ module _ (m : Monitor) (buffer : List ℕ) where
   same-verdict a b h = go (soundOf m) h
     where
       go : (s : Bool) → (s ≡ true → a ≡ b)
-          → cond s (judgeInterval (m .plant) (m .started) (m .last) (headerOf buffer) (length buffer) a) (Refuse 20)
-          ≡ cond s (judgeInterval (m .plant) (m .started) (m .last) (headerOf buffer) (length buffer) b) (Refuse 20)
+          → cond s (judgeInterval (plantIn m) (m .started) (m .last) (headerOf buffer) (length buffer) a) (Refuse 20)
+          ≡ cond s (judgeInterval (plantIn m) (m .started) (m .last) (headerOf buffer) (length buffer) b) (Refuse 20)
       go true h = rw (h refl)
       go false h = refl
 
@@ -117,7 +117,8 @@ module _ (m : Monitor) (buffer report : List ℕ) (stepped : Stepped) (is : step
 -- ---- the bytes that were read
 
 -- a sound state has no more points than the code has room for
-room-is : (m : Monitor) → soundOf m ≡ true → roomOf m ≡ 16 * total (m .plant)
+room-is : (m : Monitor) → soundOf m ≡ true → roomOf m ≡ 16 * total (plantIn m)
+unfolding plantIn
 room-is m sound = omega (arith, units-small m sound, aggregates-small m sound)
 
 pub stepped-end : (m : Monitor) (buffer out : List ℕ) → length buffer ≡ 0
@@ -131,4 +132,4 @@ pub stepped-taken : (m : Monitor) (buffer report : List ℕ) → (length buffer 
 unfolding stepOf
 stepped-taken m [] report e h = absurd (e refl)
 stepped-taken m (byte ∷ bytes) report e h =
-    same-taken m (byte ∷ bytes) report (blank m) λ sound. h ∙ room-is m sound ∙ sym (length-replicate (16 * total (m .plant)) 0)
+    same-taken m (byte ∷ bytes) report (blank m) λ sound. h ∙ room-is m sound ∙ sym (length-replicate (16 * total (plantIn m)) 0)

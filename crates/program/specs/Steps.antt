@@ -9,7 +9,7 @@ use lib.ListN.{length, drop, replicate}
 use Rattle.register.specs.Registers.{answerNumber}
 use Rattle.intervals.specs.Plants.{total}
 use Rattle.intervals.specs.Assessments.{headerOf, numberOf}
-use Rattle.intervals.specs.Monitors.{unloaded}
+use Rattle.intervals.specs.Monitors.{plantIn, unloaded}
 use Rattle.intervals.specs.Intervals.{verdictNumber, intervalOf, reportOf}
 use Rattle.intervals.specs.declared.Monitor.{Monitor}
 use Rattle.monitor.specs.Loading.{loadOf}
@@ -35,7 +35,7 @@ startOf bytes =
 
 -- a report buffer of 16(n+m) bytes
 abbrev pub blank : Monitor → List ℕ
-blank m = replicate (16 * total (m .plant)) 0
+blank m = replicate (16 * total (plantIn m)) 0
 
 -- an interval with a report buffer
 unfoldable pub takenFrom : Monitor → List ℕ → List ℕ → Outcome
@@ -50,11 +50,11 @@ stepOf m (byte ∷ bytes) = takenFrom m (byte ∷ bytes) (blank m)
 
 -- how many bytes the program reads for an interval: 8 + 40n. No register has more than 64 units
 abbrev pub sizeOf : Monitor → ℕ
-sizeOf m = 8 + 40 * min 64 (m .plant .units)
+sizeOf m = 8 + 40 * min 64 (m .roster .units)
 
 -- what the code gives a report: as many as a sound state has points for
 abbrev pub roomOf : Monitor → ℕ
-roomOf m = 16 * (min 64 (m .plant .units) + min 16 (m .plant .aggregates))
+roomOf m = 16 * (min 64 (m .roster .units) + min 16 (m .roster .aggregates))
 
 -- What the code returns and leaves in the buffer that it is lent: the text stands at the front, and the rest is as it was.
 pub record Steps (expected : Outcome) (r : Turn) (before after : List ℕ) : Type 0 where

@@ -29,16 +29,16 @@ fn least(a: usize, b: usize) -> usize
 pub fn interval_size(m: Monitor) -> usize
     ensures { λ r. ⌜ r ≡ sizeOf m ⌝ }
 {
-    let plant = m.plant;
-    8 + 40 * least(64, plant.units)
+    let roster = m.roster;
+    8 + 40 * least(64, roster.units)
 }
 
 // The bytes of its report. No register has more than 16 aggregates.
 fn report_size(m: Monitor) -> usize
     ensures { λ r. ⌜ r ≡ roomOf m ⌝ }
 {
-    let plant = m.plant;
-    16 * (least(64, plant.units) + least(16, plant.aggregates))
+    let roster = m.roster;
+    16 * (least(64, roster.units) + least(16, roster.aggregates))
 }
 
 // The register: one that is refused is all that is printed.

@@ -7,22 +7,23 @@ use Prim.Native.Nat.{ℕ, _+_, _*_, _≤_, _<_}
 use borrow.Author.Tests.{not-true, not-false, le-leb, lt-leb, eqb-true}
 use lib.ListN.{length, replicate}
 use Rattle.trace.specs.Sweeps.{every, sweep}
-use Rattle.trace.proofs.Tests.{and-l, and-r}
 use Rattle.plants.specs.declared.Lengths.{Lengths}
-use Rattle.plants.specs.declared.Plant.{Plant}
+use Rattle.plants.specs.declared.Roster.{Roster}
+use Rattle.plants.specs.Rosters.{countsIn, kindsKnown}
+use Rattle.plants.proofs.Soundness.{counts-least, counts-units, counts-aggregates}
+use Rattle.chains.specs.declared.Chains.{Chains}
+use Rattle.chains.specs.declared.visits.Walked.{Walked}
+use Rattle.chains.specs.Chains.{allMembers, chainedOf}
+use Rattle.chains.specs.Rules.{indicesIn, metOnce, endsAt, restEnds, scheduledAt, membersScheduled, Walkable}
+use Rattle.chains.specs.Walks.{unwalked, walked, stretchesWalked, rosterFrom}
+use Rattle.chains.proofs.Walks.{walk-twice, walk-met, walk-steps}
+use Rattle.chains.proofs.Layouts.{laid-out}
 use Rattle.register.specs.declared.Registered.{Registered}
 use Rattle.register.specs.declared.Answer.the-variants.{Accepted}
-use Rattle.plants.specs.declared.visits.Walk.{Walk}
 use Rattle.register.specs.Fields.{unitCount, aggregateCount, lengthsAt, fieldAt, kindsOf, nextsOf, headsOf, fieldsOf}
-use Rattle.plants.specs.Chains.{allMembers, chainedOf, withChains}
-use Rattle.plants.specs.Rules.{countsIn}
 use Rattle.register.specs.Rules.{wholeLength, spareAt, headerSpare, unitsSpare, headsSpare}
-use Rattle.plants.specs.Plants.{kindsKnown, indicesIn, metOnce, restEnds, membersScheduled, plantSound}
 use Rattle.register.specs.Registers.{refusedBy, acceptedAs, lengthsRise, fieldsKnown, chainedFrom, recordsFrom, registeredOf}
 use Rattle.register.specs.Headers.{Headed}
-use Rattle.plants.specs.Walks.{unwalked, walked}
-use Rattle.plants.proofs.Soundness.{counts-in, counts-least, counts-units, counts-aggregates, sound-by, sound-units, sound-indices}
-use Rattle.plants.proofs.Walks.{walk-twice, walk-met, walk-steps}
 
 -- a rule whose test the code found to fail, or to hold
 failed : {t holds : Bool} → t ≡ holds → not t ≡ true → holds ≡ false
@@ -80,33 +81,36 @@ module _ (bytes : List ℕ) (units aggregates : ℕ) (u : units ≡ unitCount by
       → kinds ≡ sweep (fieldAt bytes 16) units (replicate 64 0)
       → next ≡ sweep (fieldAt bytes 17) units (replicate 64 0)
       → heads ≡ sweep (fieldAt bytes (16 + 4 * units)) aggregates (replicate 16 0)
-      → _≡_ {A = Plant}
-      (record { units = units; aggregates = aggregates; small = small; large = large; kinds = kinds; next = next; heads = heads; chained = replicate 64 false })
+      → _≡_ {A = Chains}
+      (record { units = units; aggregates = aggregates; small = small; large = large; kinds = kinds; next = next; heads = heads })
       (fieldsOf bytes)
   unfolding fieldsOf kindsOf nextsOf headsOf
   fields-read small large kinds next heads s l k n h = rw (s, l, k, n, h, u, a)
 
 -- ---- refusals 4 and 5
 
-module _ (bytes : List ℕ) (p : Plant) (read : p ≡ fieldsOf bytes) (ready : Headed bytes) where
-  pub units-read : p .units ≤ 64
+module _ (bytes : List ℕ) (chains : Chains) (read : chains ≡ fieldsOf bytes) (ready : Headed bytes) where
+  pub units-read : chains .units ≤ 64
   unfolding fieldsOf
   units-read = rw read (ready .units)
 
-  pub aggregates-read : p .aggregates ≤ 16
+  pub aggregates-read : chains .aggregates ≤ 16
   unfolding fieldsOf
   aggregates-read = rw read (ready .aggregates)
 
-  module _ (known : Bool) (k : known ≡ ((headerSpare bytes && kindsKnown p) && (unitsSpare bytes && headsSpare bytes))) where
+  abbrev allKnown : Bool
+  allKnown = (headerSpare bytes && kindsKnown (chains .kinds) (chains .units)) && (unitsSpare bytes && headsSpare bytes)
+
+  module _ (known : Bool) (k : known ≡ allKnown) where
     known-is : known ≡ fieldsKnown bytes
-    unfolding fieldsKnown
+    unfolding fieldsKnown fieldsOf
     known-is = k ∙ rw read
 
     pub read-4 : (r : Registered) → r ≡ refusedBy 4 → not known ≡ true → r ≡ recordsFrom bytes
     unfolding recordsFrom
     read-4 r q e = rw (q, failed known-is e)
 
-    module _ (right : not known ≡ false) (inside : Bool) (i : inside ≡ indicesIn p) where
+    module _ (right : not known ≡ false) (inside : Bool) (i : inside ≡ indicesIn chains) where
       inside-is : inside ≡ indicesIn (fieldsOf bytes)
       inside-is = i ∙ rw read
 
@@ -114,66 +118,57 @@ module _ (bytes : List ℕ) (p : Plant) (read : p ≡ fieldsOf bytes) (ready : H
       unfolding recordsFrom
       read-5 r q e = rw (q, passed known-is right, failed inside-is e)
 
-      pub read-chains : (r : Registered) → r ≡ chainedFrom p → not inside ≡ false → r ≡ recordsFrom bytes
+      pub read-chains : (r : Registered) → r ≡ chainedFrom chains → not inside ≡ false → r ≡ recordsFrom bytes
       unfolding recordsFrom
       read-chains r q e = rw (q, read, passed known-is right, passed inside-is e)
 
-      counts : countsIn (p .units) (p .aggregates) ≡ true
-      unfolding fieldsOf
-      counts = rw read (counts-in (unitCount bytes) (aggregateCount bytes) (ready .least) (ready .units) (ready .aggregates))
-
-      kinds : kindsKnown p ≡ true
-      kinds = and-r (headerSpare bytes) (kindsKnown p) (and-l (headerSpare bytes && kindsKnown p) (unitsSpare bytes && headsSpare bytes) (passed k right))
-
-      pub read-sound : not inside ≡ false → plantSound p ≡ true
-      read-sound e = sound-by p counts kinds (passed i e)
+  pub read-walkable : (inside : Bool) → inside ≡ indicesIn chains → not inside ≡ false → Walkable chains
+  read-walkable inside i e = record { units = units-read; aggregates = aggregates-read; inside = passed i e }
 
 -- ---- refusals 6, 7 and 30
 
-module _ (p : Plant) (sound : plantSound p ≡ true) (w : Walk) (e : w ≡ walked unwalked (allMembers p)) where
-  twice-is : w .twice ≡ not (metOnce p)
-  twice-is = rw e (walk-twice p (sound-indices p sound) (sound-units p sound))
+module _ (c : Chains) (walkable : Walkable c) (w : Walked) (e : w .walk ≡ walked unwalked (allMembers c)) where
+  twice-is : w .walk .twice ≡ not (metOnce c)
+  twice-is = rw e (walk-twice c (walkable .inside) (walkable .units))
 
-  pub walked-6 : (r : Registered) → r ≡ refusedBy 6 → w .twice ≡ true → r ≡ chainedFrom p
+  met-is : w .walk .met ≡ chainedOf c
+  met-is = rw e (walk-met c (walkable .inside) (walkable .units))
+
+  pub walked-6 : (r : Registered) → r ≡ refusedBy 6 → w .walk .twice ≡ true → r ≡ chainedFrom c
   unfolding chainedFrom
-  walked-6 r q t = rw (q, not-true (metOnce p) (sym twice-is ∙ t))
+  walked-6 r q t = rw (q, not-true (metOnce c) (sym twice-is ∙ t))
 
-  module _ (one : w .twice ≡ false) (whole : Plant) (marked : w .met ≡ chainedOf p → whole ≡ withChains p) where
-    once : metOnce p ≡ true
-    once = not-false (metOnce p) (sym twice-is ∙ one)
+  module _ (one : w .walk .twice ≡ false) (ends : Bool) (i : ends ≡ every (endsAt (w .walk .met) (c .next)) (c .units)) where
+    once : metOnce c ≡ true
+    once = not-false (metOnce c) (sym twice-is ∙ one)
 
-    marked-is : whole ≡ withChains p
-    marked-is = marked (rw e (walk-met p (sound-indices p sound) (sound-units p sound)))
+    ends-is : ends ≡ restEnds c
+    unfolding restEnds
+    ends-is = i ∙ rw met-is
 
-    pub marked-units : whole .units ≤ 64
-    unfolding withChains
-    marked-units = rw marked-is (sound-units p sound)
+    pub walked-7 : (r : Registered) → r ≡ refusedBy 7 → not ends ≡ true → r ≡ chainedFrom c
+    unfolding chainedFrom
+    walked-7 r q t = rw (q, once, failed ends-is t)
 
-    module _ (ends : Bool) (i : ends ≡ restEnds whole) where
-      ends-is : ends ≡ restEnds (withChains p)
-      ends-is = i ∙ rw marked-is
+    module _ (end : not ends ≡ false) (scheduled : Bool) (s : scheduled ≡ every (scheduledAt (w .walk .met) (c .kinds)) (c .units)) where
+      scheduled-is : scheduled ≡ membersScheduled c
+      unfolding membersScheduled
+      scheduled-is = s ∙ rw met-is
 
-      pub walked-7 : (r : Registered) → r ≡ refusedBy 7 → not ends ≡ true → r ≡ chainedFrom p
+      pub walked-30 : (r : Registered) → r ≡ refusedBy 30 → not scheduled ≡ true → r ≡ chainedFrom c
       unfolding chainedFrom
-      walked-7 r q t = rw (q, once, failed ends-is t)
+      walked-30 r q t = rw (q, once, passed ends-is end, failed scheduled-is t)
 
-      module _ (end : not ends ≡ false) (scheduled : Bool) (s : scheduled ≡ membersScheduled whole) where
-        scheduled-is : scheduled ≡ membersScheduled (withChains p)
-        scheduled-is = s ∙ rw marked-is
-
-        pub walked-30 : (r : Registered) → r ≡ refusedBy 30 → not scheduled ≡ true → r ≡ chainedFrom p
-        unfolding chainedFrom
-        walked-30 r q t = rw (q, once, passed ends-is end, failed scheduled-is t)
-
-        pub walked-accepted : not scheduled ≡ false
-            → _≡_ {A = Registered} (record { answer = Accepted (w .steps); plant = whole }) (chainedFrom p)
-        unfolding chainedFrom acceptedAs
-        walked-accepted t =
-            rw (
-              marked-is,
-              e,
-              walk-steps p (sound-indices p sound) (sound-units p sound),
-              once,
-              passed ends-is end,
-              passed scheduled-is t,
-            )
+      pub walked-accepted : not scheduled ≡ false → w .stretches ≡ stretchesWalked c → (roster : Roster) → roster ≡ rosterFrom c w
+          → _≡_ {A = Registered} (record { answer = Accepted (w .walk .steps); roster = roster }) (chainedFrom c)
+      unfolding chainedFrom acceptedAs
+      walked-accepted t h roster q =
+          rw (
+            q,
+            laid-out c walkable once w e h,
+            e,
+            walk-steps c (walkable .inside) (walkable .units),
+            once,
+            passed ends-is end,
+            passed scheduled-is t,
+          )

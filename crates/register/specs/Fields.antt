@@ -1,11 +1,10 @@
 -- Where each field of a register stands (01, "The register"). A unit's index is its number less one.
-use mathlib.Core.Bool.{false}
 use mathlib.Core.List.{List}
 use Prim.Native.Nat.{ℕ, _+_, _*_}
 use lib.ListN.{getD, replicate}
 use Rattle.trace.specs.Sweeps.{sweep}
 use Rattle.plants.specs.declared.Lengths.{Lengths}
-use Rattle.plants.specs.declared.Plant.{Plant}
+use Rattle.chains.specs.declared.Chains.{Chains}
 
 abbrev pub byteAt : List ℕ → ℕ → ℕ
 byteAt bytes place = getD bytes place 0
@@ -44,8 +43,8 @@ nextsOf bytes = sweep (fieldAt bytes 17) (unitCount bytes) (replicate 64 0)
 unfoldable pub headsOf : List ℕ → List ℕ
 headsOf bytes = sweep (fieldAt bytes (headsPlace bytes)) (aggregateCount bytes) (replicate 16 0)
 
--- the plant as the bytes have it, with no unit known to be in a chain yet
-unfoldable pub fieldsOf : List ℕ → Plant
+-- the chains as the bytes have them
+unfoldable pub fieldsOf : List ℕ → Chains
 fieldsOf bytes =
     record {
       units = unitCount bytes;
@@ -55,5 +54,4 @@ fieldsOf bytes =
       kinds = kindsOf bytes;
       next = nextsOf bytes;
       heads = headsOf bytes;
-      chained = replicate 64 false;
     }

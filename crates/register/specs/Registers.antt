@@ -8,13 +8,14 @@ use lib.ListN.{length}
 use Rattle.trace.specs.Refusals.{firstOf}
 use Rattle.register.specs.declared.Answer.{Answer}
 use Rattle.register.specs.declared.Answer.the-variants.{Accepted, Refused}
-use Rattle.plants.specs.declared.Plant.{Plant}
+use Rattle.chains.specs.declared.Chains.{Chains}
 use Rattle.register.specs.declared.Registered.{Registered}
 use Rattle.register.specs.Fields.{unitCount, aggregateCount, lengthsAt, fieldsOf}
-use Rattle.plants.specs.Chains.{allMembers, withChains}
+use Rattle.chains.specs.Chains.{allMembers}
+use Rattle.chains.specs.Layouts.{rosterOf}
+use Rattle.chains.specs.Rules.{indicesIn, metOnce, restEnds, membersScheduled}
 use Rattle.register.specs.Rules.{longEnough, wholeLength, rising, headerSpare, unitsSpare, headsSpare}
-use Rattle.plants.specs.Rules.{countsIn}
-use Rattle.plants.specs.Plants.{noPlant, kindsKnown, indicesIn, metOnce, restEnds, membersScheduled}
+use Rattle.plants.specs.Rosters.{noRoster, countsIn, kindsKnown}
 
 -- ---- the answer in 01's numbers
 
@@ -28,14 +29,19 @@ unfoldable pub answerVisits : Answer → ℕ
 answerVisits (Accepted visits) = visits
 answerVisits (Refused number) = 0
 
+-- the visits that an answer has to tell: they "equal the number of units in chains"; "zero values (visits 0)" where it is refused
+unfoldable pub visitsOf : Answer → Chains → ℕ
+visitsOf (Accepted visits) c = length (allMembers c)
+visitsOf (Refused number) c = 0
+
 -- ---- what is returned
 
 unfoldable pub refusedBy : ℕ → Registered
-refusedBy number = record { answer = Refused number; plant = noPlant }
+refusedBy number = record { answer = Refused number; roster = noRoster }
 
--- the visits are the units in chains
-unfoldable pub acceptedAs : Plant → Registered
-acceptedAs p = record { answer = Accepted (length (allMembers p)); plant = withChains p }
+-- the visits are the units in chains, and the members are held side by side
+unfoldable pub acceptedAs : Chains → Registered
+acceptedAs c = record { answer = Accepted (length (allMembers c)); roster = rosterOf c }
 
 -- ---- the rules in their order
 
@@ -48,11 +54,11 @@ lengthsRise bytes = rising (lengthsAt bytes 2) && rising (lengthsAt bytes 5)
 
 -- 4: the header, the kinds, the unit records, the heads
 unfoldable pub fieldsKnown : List ℕ → Bool
-fieldsKnown bytes = (headerSpare bytes && kindsKnown (fieldsOf bytes)) && (unitsSpare bytes && headsSpare bytes)
+fieldsKnown bytes = (headerSpare bytes && kindsKnown (fieldsOf bytes .kinds) (unitCount bytes)) && (unitsSpare bytes && headsSpare bytes)
 
 -- 6, 7 and 30, over the chains
-unfoldable pub chainedFrom : Plant → Registered
-chainedFrom p = unless (metOnce p) 6 (unless (restEnds (withChains p)) 7 (unless (membersScheduled (withChains p)) 30 (acceptedAs p)))
+unfoldable pub chainedFrom : Chains → Registered
+chainedFrom c = unless (metOnce c) 6 (unless (restEnds c) 7 (unless (membersScheduled c) 30 (acceptedAs c)))
 
 -- 4 and 5, over the whole register
 unfoldable pub recordsFrom : List ℕ → Registered
@@ -80,14 +86,13 @@ registerRefusal bytes =
     ∷ (4, not (fieldsKnown bytes))
     ∷ (5, not (indicesIn (fieldsOf bytes)))
     ∷ (6, not (metOnce (fieldsOf bytes)))
-    ∷ (7, not (restEnds (withChains (fieldsOf bytes))))
-    ∷ (30, not (membersScheduled (withChains (fieldsOf bytes))))
+    ∷ (7, not (restEnds (fieldsOf bytes)))
+    ∷ (30, not (membersScheduled (fieldsOf bytes)))
     ∷ [])
 
 -- ---- what reading promises
 
--- The visits "equal the number of units in chains"; a refused register returns a plant with none.
 pub record Reads (bytes : List ℕ) (r : Registered) : Type 0 where
   pub result : r ≡ registeredOf bytes
   pub number : answerNumber (r .answer) ≡ registerRefusal bytes
-  pub visits : answerVisits (r .answer) ≡ length (allMembers (r .plant))
+  pub visits : answerVisits (r .answer) ≡ visitsOf (r .answer) (fieldsOf bytes)

@@ -3,7 +3,7 @@ ghost use mathlib.Core.Path.{_≡_};
 ghost use Prim.Native.Nat.{_+_, _≤_};
 ghost use lib.ListN.{length};
 ghost use Rattle.register.specs.Fields.{unitCount, aggregateCount, lengthsAt};
-ghost use Rattle.plants.specs.Rules.{countsIn};
+ghost use Rattle.plants.specs.Rosters.{countsIn};
 ghost use Rattle.register.specs.Rules.{wholeLength, rising};
 ghost use Rattle.register.specs.Registers.{lengthsRise};
 use crate::byte_at;

@@ -1,19 +1,19 @@
-// Reads a register (01, "The register"; 02, 2026-01): the plant and the visits along its chains, or the number of its refusal.
+// Reads a register (01, "The register"; 02, 2026-01 and 2026-08): the roster and the visits along its chains, or the number of its refusal.
 
 mod header;
 mod records;
 
 ghost use mathlib.Core.Path.{_≡_};
-ghost use mathlib.Core.Bool.{true};
 ghost use Prim.Native.Nat.{_<_};
 ghost use lib.ListN.{length};
-ghost use Rattle.plants.specs.Chains.{chainedOf, withChains};
+ghost use Rattle.chains.specs.Rules.{Walkable};
+ghost use Rattle.chains.specs.Walks.{rosterFrom};
 ghost use Rattle.register.specs.Fields.{byteAt};
-ghost use Rattle.plants.specs.Plants.{plantSound};
 ghost use Rattle.register.specs.Registers.{answerNumber, answerVisits, refusedBy, chainedFrom, recordsFrom, Reads};
-ghost use Rattle.plants.specs.Plants.{noPlant};
 ghost use Rattle.register.specs.Headers.{Headed};
-use plants::Plant;
+use chains::Chains;
+use chains::visits::Walked;
+use plants::Roster;
 
 // The visits along the chains, or the number in 01.
 pub enum Answer {
@@ -43,10 +43,10 @@ impl Answer {
     }
 }
 
-// A refused register gives a plant of zeros.
+// A refused register gives a roster of zeros.
 pub struct Registered {
     pub answer: Answer,
-    pub plant: Plant,
+    pub roster: Roster,
 }
 
 // The byte at `at`.
@@ -62,43 +62,49 @@ fn refused(number: u32) -> Registered
 {
     Registered {
         answer: Answer::Refused(number),
-        plant: plants::no_plant(),
+        roster: plants::no_roster(),
     }
 }
 
-fn marked(plant: Plant, met: [bool; 64]) -> Plant
-    ensures { λ r. ⌜ (met ≡ chainedOf plant → r ≡ withChains plant) ⌝ }
+// What is held of the chains that were walked.
+fn laid_out(chains: Chains, walked: Walked) -> Roster
+    ensures { λ r. ⌜ r ≡ rosterFrom chains walked ⌝ }
 {
-    let small = plant.small;
-    let large = plant.large;
-    let kinds = plant.kinds;
-    let next = plant.next;
-    let heads = plant.heads;
-    Plant {
-        units: plant.units,
-        aggregates: plant.aggregates,
+    let walk = walked.walk;
+    let stretches = walked.stretches;
+    let small = chains.small;
+    let large = chains.large;
+    let kinds = chains.kinds;
+    let chained = walk.met;
+    let members = walk.members;
+    let starts = stretches.starts;
+    let counts = stretches.counts;
+    Roster {
+        units: chains.units,
+        aggregates: chains.aggregates,
         small,
         large,
         kinds,
-        next,
-        heads,
-        chained: met,
+        chained,
+        members,
+        starts,
+        counts,
     }
 }
 
-// Refusals 6, 7 and 30, or the plant with each unit marked that a chain met.
-fn chained_from(plant: Plant) -> Registered
-    requires { ⌜ plantSound plant ≡ true ⌝ }
-    ensures { λ r. ⌜ r ≡ chainedFrom plant ⌝ }
+// Refusals 6, 7 and 30, or the roster that the chains give.
+fn chained_from(chains: Chains) -> Registered
+    requires { ⌜ Walkable chains ⌝ }
+    ensures { λ r. ⌜ r ≡ chainedFrom chains ⌝ }
 {
-    let walk = plants::visits::walk_chains(plant);
+    let walked = chains::visits::walk_chains(chains);
+    let walk = walked.walk;
     if walk.twice {
         return refused(6);
     }
     let met = walk.met;
-    let whole = marked(plant, met);
-    let ends = plants::rest_ends(whole);
-    let scheduled = plants::members_scheduled(whole);
+    let ends = chains::rest_ends(chains, met);
+    let scheduled = chains::members_scheduled(chains, met);
     if !ends {
         return refused(7);
     }
@@ -107,7 +113,7 @@ fn chained_from(plant: Plant) -> Registered
     }
     Registered {
         answer: Answer::Accepted(walk.steps),
-        plant: whole,
+        roster: laid_out(chains, walked),
     }
 }
 
@@ -116,16 +122,16 @@ fn records_from(bytes: &[u8]) -> Registered
     requires { ⌜ Headed (now bytes) ⌝ }
     ensures { λ r. ⌜ r ≡ recordsFrom (now (bytes .entry)) ⌝ }
 {
-    let plant = records::read_fields(bytes);
-    let known = records::fields_known(bytes, plant);
-    let inside = plants::indices_in(plant);
+    let chains = records::read_fields(bytes);
+    let known = records::fields_known(bytes, chains);
+    let inside = chains::indices_in(chains);
     if !known {
         return refused(4);
     }
     if !inside {
         return refused(5);
     }
-    chained_from(plant)
+    chained_from(chains)
 }
 
 // Any bytes can be sent. A refused register loads nothing.

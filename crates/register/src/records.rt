@@ -6,11 +6,11 @@ ghost use lib.ListN.{length, replicate};
 ghost use Rattle.trace.specs.Sweeps.{every, sweep};
 ghost use Rattle.register.specs.Fields.{fieldAt, fieldsOf};
 ghost use Rattle.register.specs.Rules.{zeroAt, spareAt, headerSpare, unitsSpare, headsSpare};
-ghost use Rattle.plants.specs.Plants.{kindsKnown};
+ghost use Rattle.plants.specs.Rosters.{kindsKnown};
 ghost use Rattle.register.specs.Headers.{Headed};
 use crate::byte_at;
 use crate::header;
-use plants::Plant;
+use chains::Chains;
 
 // One byte of each unit record, from `at` on in the first.
 fn unit_fields(bytes: &[u8], at: usize, count: usize) -> [u8; 64]
@@ -40,7 +40,7 @@ fn head_fields(bytes: &[u8], at: usize, count: usize) -> [u8; 16]
     fields
 }
 
-pub(crate) fn read_fields(bytes: &[u8]) -> Plant
+pub(crate) fn read_fields(bytes: &[u8]) -> Chains
     requires { ⌜ Headed (now bytes) ⌝ }
     ensures { λ r. ⌜ r ≡ fieldsOf (now (bytes .entry)) ⌝ }
 {
@@ -51,8 +51,7 @@ pub(crate) fn read_fields(bytes: &[u8]) -> Plant
     let kinds = unit_fields(bytes, 16, units);
     let next = unit_fields(bytes, 17, units);
     let heads = head_fields(bytes, 16 + 4 * units, aggregates);
-    let chained = [false; 64];
-    Plant {
+    Chains {
         units,
         aggregates,
         small,
@@ -60,7 +59,6 @@ pub(crate) fn read_fields(bytes: &[u8]) -> Plant
         kinds,
         next,
         heads,
-        chained,
     }
 }
 
@@ -101,11 +99,13 @@ fn spares_zero(bytes: &[u8]) -> bool
     spares(bytes, 18, 2, units) & spares(bytes, 16 + 4 * units + 1, 3, aggregates)
 }
 
-pub(crate) fn fields_known(bytes: &[u8], plant: Plant) -> bool
+pub(crate) fn fields_known(bytes: &[u8], chains: Chains) -> bool
     requires { ⌜ Headed (now bytes) ⌝ }
-    requires { ⌜ plant .units ≤ 64 ⌝ }
-    ensures { λ r. ⌜ r ≡ ((headerSpare (now (bytes .entry)) && kindsKnown plant) && (unitsSpare (now (bytes .entry)) && headsSpare (now (bytes .entry)))) ⌝ }
+    requires { ⌜ chains .units ≤ 64 ⌝ }
+    ensures { λ r. ⌜ r ≡ ((headerSpare (now (bytes .entry)) && kindsKnown (chains .kinds) (chains .units))
+        && (unitsSpare (now (bytes .entry)) && headsSpare (now (bytes .entry)))) ⌝ }
 {
-    let first = zeros(bytes, 8, 8) & plants::known_kinds(plant);
+    let kinds = chains.kinds;
+    let first = zeros(bytes, 8, 8) & plants::known_kinds(kinds, chains.units);
     first & spares_zero(bytes)
 }

@@ -13,6 +13,7 @@ use Rattle.points.specs.Points.{spanOf}
 use Rattle.points.specs.declared.Span.{Span}
 use Rattle.points.specs.declared.Reason.{Reason}
 use Rattle.intervals.specs.Assessments.{headerOf, numberOf}
+use Rattle.intervals.specs.Monitors.{plantIn}
 use Rattle.intervals.specs.Intervals.{decide, verdictNumber, intervalVerdict, intervalOf, monitorAfter, reportAfter, reportOf}
 use Rattle.intervals.specs.declared.Monitor.{Monitor}
 use Rattle.intervals.specs.declared.Stepped.{Stepped}
@@ -70,7 +71,7 @@ module _ (m : Monitor) (buffer report : List ℕ) (r : Stepped) (is : r ≡ inte
 
     -- the report of a sound state
     pub accepted-small : length report ≤ 1280
-    unfolding intervalOf
+    unfolding intervalOf plantIn
     accepted-small =
         let accepted = interval-told m buffer (length report) accepts in
         let sound = ready m buffer (length report) accepted .sound in

@@ -1,16 +1,16 @@
--- A walk along a chain, one member at a time, with `turns` and `unit` as the loop has them. Assumes nothing.
+-- An aggregate's stretch, one member at a time, with its place and its end as the loop has them. Assumes nothing.
 use mathlib.Core.Path.{_≡_, refl, sym, ap, _∙_}
 use mathlib.Core.Bool.{Bool, true, false, cond, _&&_, and-true, and-false}
 use mathlib.Core.List.{List, [], _∷_, map}
-use Prim.Native.Nat.{ℕ, _+_, _-_, _*_, _≤_, _<_}
+use Prim.Native.Nat.{ℕ, _+_, _*_, _≤_, _<_}
 use native.Mathlib.Omega.{arith}
 use lib.IntN.{ℤ}
 use lib.ListN.{getD}
 use Rattle.trace.specs.Lists.{allIn, fold}
-use Rattle.plants.specs.Chains.{chain, membersOf}
-use Rattle.plants.specs.declared.Plant.{Plant}
-use Rattle.plants.proofs.Chains.{chain-end, chain-out, chain-turn}
-use Rattle.plants.proofs.Soundness.{sound-units, sound-indices, next-inside, head-inside}
+use Rattle.plants.specs.Rosters.{startOf, countOf, held}
+use Rattle.plants.specs.declared.Roster.{Roster}
+use Rattle.plants.proofs.Soundness.{sound-units, place-inside, stretch-inside}
+use Rattle.plants.proofs.Stretches.{part, part-end, part-more, stretch-part}
 use Rattle.marks.specs.Bounds.{SmallKept}
 use Rattle.marks.specs.declared.Kept.{Kept}
 use Rattle.aggregates.specs.Aggregates.{addSigned}
@@ -82,72 +82,68 @@ member-more {n} t load k s small = go (k .have)
     go true = omega (arith, signed-size load (t .target) (k .target))
     go false = omega arith
 
--- ---- along the chain
+-- ---- along a stretch
 
 -- the members that are left
-abbrev pub left : Plant → (ℕ → Kept) → ℕ → ℕ → List Member
-left plant kept turns unit = map (λ u. memberAt plant kept (u - 1)) (chain (plant .next) (65 - turns) unit)
+abbrev pub left : Roster → (ℕ → Kept) → ℕ → ℕ → List Member
+left roster kept k end = map (memberAt (held roster) kept) (part (roster .members) k end)
 
--- what the members so far and those that are left give is what the whole chain does
-pub record Along (plant : Plant) (kept : List Kept) (aggregate : ℕ) (t : Target) (unit turns : ℕ) : Type 0 where
-  pub known : Known plant kept
-  pub few : plant .units ≤ 64
-  pub most : turns ≤ 65
-  pub inside : unit ≤ plant .units
-  pub small : SmallTarget (2000000 * turns) t
-  pub ends : targetFrom t (left plant (keptIn kept) turns unit) ≡ targetOf plant (keptIn kept) aggregate
+-- what the members so far and those that are left give is what the whole stretch does
+pub record Along (roster : Roster) (kept : List Kept) (aggregate : ℕ) (t : Target) (k end : ℕ) : Type 0 where
+  pub known : Known roster kept
+  pub few : roster .units ≤ 64
+  pub room : end ≤ 64
+  pub most : k ≤ end
+  pub small : SmallTarget (2000000 * k) t
+  pub ends : targetFrom t (left roster (keptIn kept) k end) ≡ targetOf (held roster) (keptIn kept) aggregate
 
-module _ {plant : Plant} {kept : List Kept} {aggregate : ℕ} where
-  pub along-none : {t : Target} → t ≡ noMembers → Known plant kept → aggregate < plant .aggregates
-      → Along plant kept aggregate t (getD (plant .heads) aggregate 0) 0
-  unfolding targetOf membersKept membersOf
-  along-none e known l =
+module _ {roster : Roster} {kept : List Kept} {aggregate : ℕ} where
+  pub along-none : {t : Target} {k end : ℕ} → t ≡ noMembers → Known roster kept → aggregate < roster .aggregates
+      → k ≡ startOf roster aggregate
+      → end ≡ startOf roster aggregate + countOf roster aggregate
+      → Along roster kept aggregate t k end
+  unfolding targetOf membersKept
+  along-none e known l p q =
       record {
         known = known;
-        few = sound-units plant (known .sound);
+        few = sound-units roster (known .sound);
+        room = let inside = stretch-inside roster (known .sound) aggregate l in omega arith;
         most = omega arith;
-        inside = head-inside plant (sound-indices plant (known .sound)) aggregate l;
         small = rw e (omega arith);
-        ends = rw e (from-start _);
+        ends = rw (e, p, q, stretch-part roster aggregate) (from-start _);
       }
 
-  module _ {t : Target} {unit turns : ℕ} (a : Along plant kept aggregate t unit turns) where
+  module _ {t : Target} {k end : ℕ} (a : Along roster kept aggregate t k end) where
     pub along-small : SmallTarget 130000000 t
-    along-small = let bound : 2000000 * turns ≤ 130000000 = omega (arith, a .most) in wider bound (a .small)
+    along-small = let bound : 2000000 * k ≤ 130000000 = omega (arith, a .most, a .room) in wider bound (a .small)
 
-    -- the chain has ended, or the turns are used up
-    none-left : left plant (keptIn kept) turns unit ≡ [] → t ≡ targetOf plant (keptIn kept) aggregate
-    none-left e = sym (from-end t) ∙ ap (targetFrom t) (sym e) ∙ a .ends
+    pub along-end : end ≤ k → t ≡ targetOf (held roster) (keptIn kept) aggregate
+    along-end h = sym (from-end t) ∙ ap (λ (us : List ℕ). targetFrom t (map (memberAt (held roster) (keptIn kept)) us)) (sym (part-end _ k end h)) ∙ a .ends
 
-    pub along-end : unit ≡ 0 → t ≡ targetOf plant (keptIn kept) aggregate
-    along-end e = none-left (rw (e, chain-end (plant .next) (65 - turns)))
+    -- one more, as the loop reads it
+    module _ (l : k < end) where
+      abbrev here : ℕ
+      here = getD (roster .members) k 0
 
-    pub along-out : 65 ≤ turns → t ≡ targetOf plant (keptIn kept) aggregate
-    along-out h = let none : 65 - turns ≡ 0 = omega arith in none-left (rw (none, chain-out (plant .next) unit))
-
-    -- one more, as the loop counts and reads it
-    module _ (l : turns < 65) (n : unit ≡ 0 → ⊥) where
       abbrev member : Member
-      member = memberAt plant (keptIn kept) (unit - 1)
+      member = memberAt (held roster) (keptIn kept) here
 
-      abbrev following : ℕ
-      following = getD (plant .next) (unit - 1) 0
+      pub along-here : here < roster .units
+      along-here = place-inside roster (a .known .sound) k (omega (arith, a .room))
 
-      pub along-here : unit - 1 < plant .units
-      along-here = omega (arith, a .inside)
-
-      left-more : left plant (keptIn kept) turns unit ≡ member ∷ left plant (keptIn kept) (turns + 1) following
-      left-more = ap (map (λ u. memberAt plant (keptIn kept) (u - 1))) (chain-turn (plant .next) 65 turns unit l (omega arith))
-
-      pub along-more : {next : Target} → next ≡ addMember t (member .load) (member .line) → Along plant kept aggregate next following (turns + 1)
+      pub along-more : {i : ℕ} {next : Target} → i ≡ here
+          → next ≡ addMember t (memberAt (held roster) (keptIn kept) i .load) (memberAt (held roster) (keptIn kept) i .line)
+          → Along roster kept aggregate next (k + 1) end
       unfolding memberAt
-      along-more e =
-          let bound : 2000000 * turns + 2000000 ≤ 2000000 * (turns + 1) = omega arith in
+      along-more same q =
+          let e : _ ≡ addMember t (member .load) (member .line) = rw same at q in
+          let bound : 2000000 * k + 2000000 ≤ 2000000 * (k + 1) = omega arith in
+          let more = ap (λ (us : List ℕ). targetFrom t (map (memberAt (held roster) (keptIn kept)) us)) (part-more (roster .members) k end l) in
           record {
             known = a .known;
             few = a .few;
+            room = a .room;
             most = omega arith;
-            inside = next-inside plant (sound-indices plant (a .known .sound)) (unit - 1) along-here;
-            small = rw e (wider bound (member-more t (member .load) (member .line) (a .small) (a .known .small (unit - 1) along-here)));
-            ends = rw e (sym (from-more t member _) ∙ ap (targetFrom t) (sym left-more) ∙ a .ends);
+            small = rw e (wider bound (member-more t (member .load) (member .line) (a .small) (a .known .small here along-here)));
+            ends = rw e (sym (from-more t member _) ∙ sym more ∙ a .ends);
           }

@@ -2,12 +2,11 @@
 -- a kept line". Kept lines are a function of the unit's place, its number less one, so that the state and a history are read alike.
 use mathlib.Core.Bool.{Bool, false}
 use mathlib.Core.List.{List, map}
-use Prim.Native.Nat.{ℕ, _+_, _-_}
+use Prim.Native.Nat.{ℕ, _+_}
 use lib.IntN.{ℤ, pos}
 use lib.ListN.{getD}
 use Rattle.trace.specs.Lists.{selected, allIn, fold}
-use Rattle.plants.specs.Chains.{membersOf}
-use Rattle.plants.specs.declared.Plant.{Plant}
+use Rattle.plants.specs.Plants.{Plant}
 use Rattle.marks.specs.KeptLines.{nothingKept}
 use Rattle.marks.specs.declared.Kept.{Kept}
 use Rattle.aggregates.specs.Aggregates.{isLoad, addSigned}
@@ -23,7 +22,7 @@ memberAt plant kept i = record { load = isLoad (getD (plant .kinds) i 0); line =
 
 -- the members of aggregate j, counted from 0, in the order of its chain
 unfoldable pub membersKept : Plant → (ℕ → Kept) → ℕ → List Member
-membersKept plant kept j = map (λ unit. memberAt plant kept (unit - 1)) (membersOf plant j)
+membersKept plant kept j = map (memberAt plant kept) (plant .members j)
 
 abbrev pub hasLine : Member → Bool
 hasLine v = v .line .have

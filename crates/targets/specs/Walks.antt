@@ -5,8 +5,8 @@ use mathlib.Core.Bool.{Bool, true, cond, _&&_}
 use mathlib.Core.List.{List}
 use Prim.Native.Nat.{ℕ, _+_, _≤_, _<_}
 use lib.IntN.{pos, natAbs}
-use Rattle.plants.specs.Plants.{plantSound}
-use Rattle.plants.specs.declared.Plant.{Plant}
+use Rattle.plants.specs.Rosters.{rosterSound}
+use Rattle.plants.specs.declared.Roster.{Roster}
 use Rattle.marks.specs.Bounds.{SmallKept}
 use Rattle.marks.specs.declared.Kept.{Kept}
 use Rattle.aggregates.specs.Aggregates.{addSigned}
@@ -36,6 +36,6 @@ pub record SmallTarget (n : ℕ) (t : Target) : Type 0 where
   pub lower : t .lower ≤ n
 
 -- indices in range, and small numbers in the kept lines of the units
-pub record Known (plant : Plant) (kept : List Kept) : Type 0 where
-  pub sound : plantSound plant ≡ true
-  pub small : (i : ℕ) → i < plant .units → SmallKept (keptIn kept i)
+pub record Known (roster : Roster) (kept : List Kept) : Type 0 where
+  pub sound : rosterSound roster ≡ true
+  pub small : (i : ℕ) → i < roster .units → SmallKept (keptIn kept i)

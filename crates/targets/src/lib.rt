@@ -1,12 +1,12 @@
 // What is kept with an aggregate between intervals: its own target and regulation (02, 2026-07).
 ghost use mathlib.Core.Path.{_≡_};
-ghost use Prim.Native.Nat.{_<_, _≤_};
 ghost use Rattle.trace.specs.Sweeps.{sweep};
+ghost use Rattle.plants.specs.Rosters.{held};
 ghost use Rattle.marks.specs.Bounds.{SmallKept};
 ghost use Rattle.targets.specs.Targets.{noTarget, keptIn, targetOf};
 ghost use Rattle.targets.specs.Walks.{noMembers, addMember, SmallTarget, Known};
 use marks::Kept;
-use plants::Plant;
+use plants::Roster;
 
 // Over those members that have a kept line: the signed sum of MWB, and the sums of FCR and FCL. `complete` is whether every member has
 // one.
@@ -67,38 +67,26 @@ impl Target {
     }
 }
 
-// From the head of the aggregate's chain through next, to the chain's end: unlike the pass that gives the mark, past a member whose line
-// was unreadable. 65 turns are enough to end a chain, or to meet a unit again.
-fn target_of(plant: Plant, kept: [Kept; 64], aggregate: usize) -> Target
-    requires { ⌜ Known plant kept ⌝ }
-    requires { ⌜ aggregate < plant .aggregates ⌝ }
-    ensures { λ r. ⌜ r ≡ targetOf plant (keptIn kept) aggregate ⌝ }
+// What the kept lines make of each aggregate, along its stretch of the list: unlike the pass that gives the mark, past a member whose line was
+// unreadable. Both loops stand here, since lines handed on by value would be copied for each aggregate.
+pub fn targets_of(roster: Roster, kept: [Kept; 64], before: [Target; 16]) -> [Target; 16]
+    requires { ⌜ Known roster kept ⌝ }
+    ensures { λ r. ⌜ r ≡ sweep (targetOf (held roster) (keptIn kept)) (roster .aggregates) before ⌝ }
 {
-    let mut target = no_members();
-    let mut unit = plant.heads[aggregate];
-    let mut turns: u32 = 0;
-    while turns < 65 {
-        if unit == 0 {
-            return target;
-        }
-        let i = (unit - 1) as usize;
-        target = target.plus(plant.kinds[i] == 2, kept[i]);
-        unit = plant.next[i];
-        turns += 1;
-    }
-    target
-}
-
-// What the kept lines make of each aggregate.
-pub fn targets_of(plant: Plant, kept: [Kept; 64], before: [Target; 16]) -> [Target; 16]
-    requires { ⌜ Known plant kept ⌝ }
-    ensures { λ r. ⌜ r ≡ sweep (targetOf plant (keptIn kept)) (plant .aggregates) before ⌝ }
-{
-    let count = plant.aggregates;
+    let count = roster.aggregates;
     let mut targets = before;
     let mut j = 0;
     while j < count {
-        targets[j] = target_of(plant, kept, j);
+        let start = plants::wide(roster.starts[j]);
+        let end = start + plants::wide(roster.counts[j]);
+        let mut target = no_members();
+        let mut k = start;
+        while k < end {
+            let i = plants::wide(roster.members[k]);
+            target = target.plus(roster.kinds[i] == 2, kept[i]);
+            k += 1;
+        }
+        targets[j] = target;
         j += 1;
     }
     targets

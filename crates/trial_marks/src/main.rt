@@ -3,10 +3,13 @@ ghost use Prim.Native.Nat.{_+_, _*_, _<_, _≤_};
 ghost use lib.ListN.{length};
 ghost use Rattle.marks.specs.Bounds.{SmallSight};
 ghost use Rattle.aggregates.specs.Sizes.{SmallSums};
+ghost use Rattle.aggregates.specs.Views.{SmallView};
 use aggregates::Sums;
+use aggregates::View;
 use marks::Assessment;
 use marks::Mark;
 use marks::Sight;
+use telemetry::Line;
 
 fn put_mark(out: &mut [u8], at: usize, mark: Mark) -> usize {
     match mark {
@@ -73,6 +76,19 @@ fn sight_at(units: &[u8], at: usize, chained: bool) -> Sight
     )
 }
 
+// A unit as the sums of its aggregate take it.
+fn view_of(unit: Sight) -> View
+    requires { ⌜ SmallSight unit ⌝ }
+    ensures { λ r. ⌜ SmallView r ⌝ }
+{
+    let line = unit.line;
+    let kept = unit.kept;
+    match line {
+        Line::Readable(f) => aggregates::view_of(unit.kind, f, kept, marks::measure(f)),
+        Line::Unreadable => aggregates::unreadable_view(unit.kind),
+    }
+}
+
 // The sums over `count` members, first to last; where fewer are given, they come round again.
 fn sums_of(units: &[u8], given: usize, count: usize) -> Sums
     requires { ⌜ (82 * given ≤ length (now units)) × (0 < given) × (count ≤ 64) ⌝ }
@@ -81,7 +97,7 @@ fn sums_of(units: &[u8], given: usize, count: usize) -> Sums
     let mut sums = Sums::none();
     let mut i = 0;
     while i < count {
-        let member = sight_at(units, 82 * (i % given), true);
+        let member = view_of(sight_at(units, 82 * (i % given), true));
         sums = sums.plus(member);
         i += 1;
     }

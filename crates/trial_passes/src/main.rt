@@ -3,13 +3,14 @@ ghost use Prim.Native.Nat.{_+_, _*_, _<_, _≤_};
 ghost use mathlib.Core.Path.{_≡_};
 ghost use mathlib.Core.Bool.{true};
 ghost use lib.ListN.{length};
-ghost use Rattle.plants.specs.Plants.{plantSound};
-ghost use Rattle.marks.specs.Bounds.{SmallSight};
+ghost use Rattle.plants.specs.Rosters.{rosterSound};
+ghost use Rattle.aggregates.specs.Views.{SmallView};
 ghost use Rattle.passes.specs.Seen.{Seen};
-use marks::Sight;
+use aggregates::View;
 use passes::Pass;
-use plants::Plant;
+use plants::Roster;
 use register::Answer;
+use telemetry::Line;
 
 fn size(b: u8) -> usize
     ensures { λ r. ⌜ r < 256 ⌝ }
@@ -19,13 +20,14 @@ fn size(b: u8) -> usize
 
 // ---- what is seen of the units
 
-fn sight_of(kind: u8, chained: bool, line: &[u8], before: &[u8]) -> Sight
-    ensures { λ r. ⌜ SmallSight r ⌝ }
+fn view_of(kind: u8, chained: bool, line: &[u8], before: &[u8]) -> View
+    ensures { λ r. ⌜ SmallView r ⌝ }
 {
-    Sight {
-        kind,
-        line: telemetry::read_line(kind, chained, line),
-        kept: marks::kept_from(telemetry::read_line(kind, chained, before)),
+    let line = telemetry::read_line(kind, chained, line);
+    let kept = marks::kept_from(telemetry::read_line(kind, chained, before));
+    match line {
+        Line::Readable(f) => aggregates::view_of(kind, f, kept, marks::measure(f)),
+        Line::Unreadable => aggregates::unreadable_view(kind),
     }
 }
 
@@ -38,15 +40,15 @@ fn line_end(before: usize, is_kept: bool) -> usize
 }
 
 // The sample at place n, of which each has 81 bytes: 1 where a line is kept, this interval's line and the one before it.
-fn sight_at(samples: &[u8], n: usize, kind: u8, chained: bool) -> Sight
+fn view_at(samples: &[u8], n: usize, kind: u8, chained: bool) -> View
     requires { ⌜ (n < 256) × (81 * n + 81 ≤ length (now samples)) ⌝ }
-    ensures { λ r. ⌜ SmallSight r ⌝ }
+    ensures { λ r. ⌜ SmallView r ⌝ }
 {
     let at = 81 * n;
     let from = at + 1;
     let before = at + 41;
     let end = line_end(before, samples[at] == 1);
-    sight_of(kind, chained, &samples[from..before], &samples[before..end])
+    view_of(kind, chained, &samples[from..before], &samples[before..end])
 }
 
 // Which of the given samples the unit at place i has. Picks come round again, and so do samples.
@@ -57,18 +59,17 @@ fn picked(picks: &[u8], i: usize, given: usize) -> usize
     size(picks[i % picks.len()]) % given
 }
 
-fn sights(plant: Plant, samples: &[u8], given: usize, picks: &[u8]) -> [Sight; 64]
-    requires { ⌜ plantSound plant ≡ true ⌝ }
+fn views(roster: Roster, samples: &[u8], given: usize, picks: &[u8]) -> [View; 64]
+    requires { ⌜ rosterSound roster ≡ true ⌝ }
     requires { ⌜ (81 * given ≤ length (now samples)) × (1 ≤ given) × (given < 256) × (1 ≤ length (now picks)) ⌝ }
-    ensures { λ r. ⌜ Seen plant r ⌝ }
+    ensures { λ r. ⌜ Seen roster r ⌝ }
 {
-    let units = plant.units;
-    // No member is past the last unit, so anything may stand there.
-    let mut seen = [sight_at(samples, 0, 0, false); 64];
+    let units = roster.units;
+    let mut seen = [aggregates::no_view(); 64];
     let mut i = 0;
     while i < units {
         let n = picked(picks, i, given);
-        seen[i] = sight_at(samples, n, plant.kinds[i], plant.chained[i]);
+        seen[i] = view_at(samples, n, roster.kinds[i], roster.chained[i]);
         i += 1;
     }
     seen
@@ -111,28 +112,35 @@ fn print_pass(label: &[u8], aggregate: usize, pass: Pass) {
     output::write(b"trial_passes: standard output", &out, next);
 }
 
-fn print_passes(label: &[u8], plant: Plant, seen: [Sight; 64])
-    requires { ⌜ Seen plant seen ⌝ }
+fn print_passes(label: &[u8], passes: [Pass; 16], aggregates: usize)
+    requires { ⌜ aggregates ≤ 16 ⌝ }
 {
-    let aggregates = plant.aggregates;
     let mut j = 0;
     while j < aggregates {
-        print_pass(label, j + 1, passes::assess_aggregate(plant, seen, j));
+        print_pass(label, j + 1, passes[j]);
         j += 1;
     }
 }
 
-// An accepted plant is sound; the test of it here stands for a proof.
+fn print_roster(label: &[u8], roster: Roster, samples: &[u8], given: usize, picks: &[u8])
+    requires { ⌜ rosterSound roster ≡ true ⌝ }
+    requires { ⌜ (81 * given ≤ length (now samples)) × (1 ≤ given) × (given < 256) × (1 ≤ length (now picks)) ⌝ }
+{
+    let passes = passes::assess_aggregates(roster, views(roster, samples, given, picks));
+    print_passes(label, passes, roster.aggregates);
+}
+
+// An accepted roster is sound; the test of it here stands for a proof.
 fn print_case(label: &[u8], bytes: &[u8], samples: &[u8], given: usize, picks: &[u8])
     requires { ⌜ (81 * given ≤ length (now samples)) × (1 ≤ given) × (given < 256) × (1 ≤ length (now picks)) ⌝ }
 {
     let registered = register::read_register(bytes);
     let answer = registered.answer;
-    let plant = registered.plant;
+    let roster = registered.roster;
     match answer {
         Answer::Accepted(_) => {
-            if plants::plant_sound(plant) {
-                print_passes(label, plant, sights(plant, samples, given, picks));
+            if plants::roster_sound(roster) {
+                print_roster(label, roster, samples, given, picks);
             }
         }
         Answer::Refused(number) => print_refused(label, number),

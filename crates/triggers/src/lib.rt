@@ -25,7 +25,7 @@ pub struct Capability {
     pub least: u64,
 }
 
-fn lesser(a: u64, b: u64) -> u64
+pub fn lesser(a: u64, b: u64) -> u64
     ensures { λ r. ⌜ r ≡ min a b ⌝ }
 {
     if a <= b { a } else { b }

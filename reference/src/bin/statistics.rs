@@ -1,4 +1,4 @@
-//! `statistics FIRST LAST`: what the random lists of these seeds reach, what the random passes of seeds 1 to 8 reach, what the
+//! `statistics FIRST LAST`: what the random lists of these seeds reach, what the random passes of seeds 1 to 12 reach, what the
 //! random days of seeds 1 to 2000 reach, and what the random ledgers of seeds 1 to 1000 reach; fails when something stays rare.
 
 use conformance::frames::{HEAD, MAX_PAYLOAD};
@@ -25,7 +25,7 @@ const LEVELS: [i32; 9] = [i32::MIN, -128_000_001, -128_000_000, -1, 0, 1, 128_00
 /// Least count of each thing for the check to pass.
 const LEAST: u64 = 100;
 /// Seeds of the random passes.
-const PASS_SEEDS: std::ops::RangeInclusive<u64> = 1..=8;
+const PASS_SEEDS: std::ops::RangeInclusive<u64> = 1..=12;
 /// What is asked of the passes over members, in lists of calls and for themselves.
 const PASSES: [&str; 7] = [
     "ended at the first place of two or more",
@@ -153,6 +153,34 @@ const NO_TARGETS: [&str; 11] = [
     "10, point 4294967295",
     "10, another point",
 ];
+/// What is asked of the chains of accepted registers, and of the calls answered under them.
+const CHAINS: [&str; 11] = [
+    NO_CHAIN,
+    "a rising chain of 3 or more",
+    "a falling chain of 3 or more",
+    "a chain of 3 or more in another order",
+    "chains that interleave",
+    "2 chains or more, each a run of neighbours",
+    "3 heads or more, rising",
+    "3 heads or more, falling",
+    "one chain of 64",
+    "16 chains of 1",
+    "16 chains of 4",
+];
+const NO_CHAIN: &str = "no chain";
+/// The same of a register that came after another of the same units, under which an interval was accepted.
+const REGROUPED: [&str; 5] = [
+    OTHER_CHAINS,
+    "the same chains, of other aggregates",
+    "the same members, in another order",
+    "other members, chains as long",
+    "other members, chains of other lengths",
+];
+const OTHER_CHAINS: &str = "other chains over the same units";
+/// The same of refused loads: after a register of other chains over the same units, any; and after an accepted interval, one of
+/// as many units whose chains were walked.
+const THEN_REFUSED: [&str; 2] =
+    ["other chains over the same units, then a refused load", "then a refused load that walked other chains"];
 /// Seeds of the random days.
 const DAY_SEEDS: std::ops::RangeInclusive<u64> = 1..=2_000;
 /// Errors at the thresholds of an interval and beside them.
@@ -364,6 +392,100 @@ fn classes(plant: &Plant) -> Vec<&'static str> {
     classes
 }
 
+/// The chains of a plant.
+fn chains_of(plant: &Plant) -> Vec<&[u8]> {
+    (0..plant.aggregates()).map(|aggregate| plant.members(aggregate)).collect()
+}
+
+/// What the chains of a plant are.
+fn meet_chains(chains: &[&[u8]]) -> BTreeSet<&'static str> {
+    let mut met = BTreeSet::new();
+    let mut meet = |reached: bool, name| {
+        if reached {
+            met.insert(name);
+        }
+    };
+    let falls = |units: &[u8]| units.windows(2).all(|pair| pair[0] > pair[1]);
+    for chain in chains.iter().filter(|chain| chain.len() >= 3) {
+        meet(
+            true,
+            match (chain.is_sorted(), falls(chain)) {
+                (true, _) => "a rising chain of 3 or more",
+                (_, true) => "a falling chain of 3 or more",
+                _ => "a chain of 3 or more in another order",
+            },
+        );
+    }
+    // The lowest and the highest unit of each chain.
+    let ends: Vec<(u8, u8)> =
+        chains.iter().flat_map(|chain| chain.iter().min().copied().zip(chain.iter().max().copied())).collect();
+    let overlap = |(place, &(low, high)): (usize, &(u8, u8))| {
+        ends[..place].iter().any(|&(other_low, other_high)| low < other_high && other_low < high)
+    };
+    meet(ends.iter().enumerate().any(overlap), "chains that interleave");
+    let run = |(chain, &(low, high)): (&&[u8], &(u8, u8))| usize::from(high - low) + 1 == chain.len();
+    let several = chains.iter().filter(|chain| chain.len() >= 2).count() >= 2;
+    meet(several && chains.iter().zip(&ends).all(run), "2 chains or more, each a run of neighbours");
+    let heads: Vec<u8> = chains.iter().map(|chain| chain[0]).collect();
+    meet(heads.len() >= 3 && heads.is_sorted(), "3 heads or more, rising");
+    meet(heads.len() >= 3 && falls(&heads), "3 heads or more, falling");
+    let lengths: Vec<usize> = chains.iter().map(|chain| chain.len()).collect();
+    meet(lengths.is_empty(), NO_CHAIN);
+    meet(lengths == [64], "one chain of 64");
+    meet(lengths == [1; 16], "16 chains of 1");
+    meet(lengths == [4; 16], "16 chains of 4");
+    met
+}
+
+/// What the chains of a plant are beside those of an earlier one.
+fn meet_regrouped(earlier: &Plant, plant: &Plant) -> BTreeSet<&'static str> {
+    let kinds = |plant: &Plant| -> Vec<Kind> { (0..plant.units()).map(|unit| plant.kind(unit)).collect() };
+    let (before, now) = (chains_of(earlier), chains_of(plant));
+    if kinds(earlier) != kinds(plant) || before == now {
+        return BTreeSet::new();
+    }
+    let sorted = |chains: &[&[u8]]| -> Vec<Vec<u8>> {
+        let each = |chain: &&[u8]| {
+            let mut units = chain.to_vec();
+            units.sort_unstable();
+            units
+        };
+        chains.iter().map(each).collect()
+    };
+    let set = |chains: &[&[u8]]| -> BTreeSet<Vec<u8>> { chains.iter().map(|chain| chain.to_vec()).collect() };
+    let lengths = |chains: &[&[u8]]| -> Vec<usize> { chains.iter().map(|chain| chain.len()).collect() };
+    let how = if set(&before) == set(&now) {
+        "the same chains, of other aggregates"
+    } else if sorted(&before) == sorted(&now) {
+        "the same members, in another order"
+    } else if lengths(&before) == lengths(&now) {
+        "other members, chains as long"
+    } else {
+        "other members, chains of other lengths"
+    };
+    BTreeSet::from([OTHER_CHAINS, how])
+}
+
+/// What a refused load is, after a register of these chains.
+fn meet_refused_load(
+    monitor: &Monitor,
+    last_number: Option<u32>,
+    chains: &BTreeSet<&str>,
+    register: &[u8],
+    refusal: Refusal,
+) -> BTreeSet<&'static str> {
+    let walked = matches!(refusal, Refusal::MetTwice | Refusal::Unmet | Refusal::SemiScheduledMember);
+    let units = monitor.plant().map(|plant| plant.units() as u8);
+    let as_many = last_number.is_some() && register.first().copied() == units;
+    let reached = [chains.contains(OTHER_CHAINS), walked && as_many];
+    THEN_REFUSED.into_iter().zip(reached).filter(|(_, reached)| *reached).map(|(name, _)| name).collect()
+}
+
+/// Counts a call under a register of these chains.
+fn count_under(counts: &mut Counts, chains: &BTreeSet<&str>, call: &str) {
+    chains.iter().for_each(|name| counts.add(format!("chains: {name}: {call}")));
+}
+
 /// Counts where semi-scheduled units stand in the chains of a register whose chains end: one refused by 7 or 30.
 fn count_chained(counts: &mut Counts, register: &[u8], refusal: Refusal) {
     let (units, heads) = register[16..].as_chunks::<4>().0.split_at(usize::from(register[0]));
@@ -468,6 +590,11 @@ fn count_random_passes(counts: &mut Counts) {
         for case in passes::cases(&random_passes::blocks(seed)) {
             let chains = case.chains();
             counts.answer("passes: register", &chains);
+            if let Ok((plant, _)) = Plant::load(case.register) {
+                for name in meet_chains(&chains_of(&plant)) {
+                    counts.add(format!("passes: register, {name}"));
+                }
+            }
             for members in chains.iter().flatten() {
                 let pass = count_pass(counts, "passes: pass", members);
                 counts.add(format!("passes: mark {}", MARKS[pass.assessment.mark as usize]));
@@ -1489,6 +1616,7 @@ fn main() -> ExitCode {
         let mut kept = Vec::new();
         let mut stories: Vec<Story> = Vec::new();
         let mut asking = Asking::default();
+        let mut chains = BTreeSet::new();
         for call in Calls::new(&list) {
             match call {
                 Ok(Call::Load(register)) => {
@@ -1497,6 +1625,14 @@ fn main() -> ExitCode {
                     counts.answer("load", &answer);
                     match answer {
                         Ok(_) => {
+                            chains = monitor.plant().map_or(BTreeSet::new(), |plant| {
+                                let mut chains = meet_chains(&chains_of(plant));
+                                if let (Some(earlier), Some(_)) = (before.plant(), last_number) {
+                                    chains.extend(meet_regrouped(earlier, plant));
+                                }
+                                chains
+                            });
+                            count_under(&mut counts, &chains, "load");
                             asking = Asking::after_load(&before);
                             class = monitor.plant().map_or(Vec::new(), classes);
                             last_number = None;
@@ -1511,7 +1647,10 @@ fn main() -> ExitCode {
                         }
                         Err(_) => {}
                     }
-                    if answer.is_err() {
+                    if let Err(refusal) = answer {
+                        let then = meet_refused_load(&monitor, last_number, &chains, register, refusal);
+                        count_under(&mut counts, &then, "load");
+                        chains.extend(then);
                         stories.iter_mut().for_each(|story| story.refused_load = true);
                         asking.since.refused_load = true;
                     }
@@ -1535,6 +1674,7 @@ fn main() -> ExitCode {
                         kept.fill(None);
                     }
                     last_number = Some(number);
+                    count_under(&mut counts, &chains, "interval");
                     let Some(plant) = monitor.plant() else { continue };
                     let lines: &[[u8; LINE]] = buffer[HEADER..].as_chunks().0;
                     let read = |unit: usize| Line::read(&lines[unit], plant.kind(unit), is_member(plant, unit));
@@ -1609,7 +1749,14 @@ fn main() -> ExitCode {
                         asking.since.reinstated.insert(point as usize - 1);
                     }
                 }
-                Ok(Call::Look { point }) => counts.answer("look", &monitor.look(point)),
+                Ok(Call::Look { point }) => {
+                    let answer = monitor.look(point);
+                    counts.answer("look", &answer);
+                    let of_aggregate = monitor.plant().is_some_and(|plant| point as usize > plant.units());
+                    if answer.is_ok() && (of_aggregate || chains.contains(NO_CHAIN)) {
+                        count_under(&mut counts, &chains, "look");
+                    }
+                }
                 Ok(Call::Reason { point }) => {
                     let answer = monitor.reason(point);
                     counts.answer("reason", &answer);
@@ -1639,6 +1786,7 @@ fn main() -> ExitCode {
                         (Some(plant), Ok(found)) => {
                             let lines = last_number.map(|_| &kept[..]);
                             asking.count(&mut counts, plant, point, found, lines);
+                            count_under(&mut counts, &chains, "target");
                         }
                         (Some(plant), Err(_)) if monitor.look(point).is_ok() => {
                             count_unit_target(&mut counts, plant, point);
@@ -1769,6 +1917,14 @@ fn main() -> ExitCode {
         for what in ["the first unreadable", "the last unreadable", "none unreadable"] {
             wanted.push(format!("passes: chain of {length}, {what}"));
         }
+    }
+    for what in CHAINS {
+        wanted.push(format!("passes: register, {what}"));
+    }
+    for what in CHAINS.iter().chain(&REGROUPED).chain(&THEN_REFUSED) {
+        let calls = ["load", "interval", "look", "target"];
+        let answered = calls.iter().filter(|&&call| *what != NO_CHAIN || call != "target");
+        wanted.extend(answered.map(|call| format!("chains: {what}: {call}")));
     }
     wanted.push("days: accepted".into());
     wanted.extend(DAYS.iter().map(|what| format!("days: {what}")));

@@ -25,7 +25,7 @@ unit-basis-requires c κs = search needs
 judge-requires : tie.Need-judge-requires
 judge-requires c κs =
     let s = tested c .before in
-    rw (c .unit-basis .ensures) (unit-small _ _ _ (s .pre .0) (s .pre .1))
+    rw (c .unit-basis .ensures) (unit-small _ _ _ (s .pre .0 .0) (s .pre .0 .1))
 
 returns-2 : tie.Need-returns-2
 unfolding knownAssessment

@@ -9,13 +9,19 @@ use Rattle.marks.proofs.assess_unit.Tie as tie
 abbrev start : tie.After-line → tie.Start
 start c = c .before .before .before
 
+abbrev line : tie.After-measure → tie.After-line
+line c = c .before .before
+
 enum-known-line : tie.Need-enum-known-line
 enum-known-line c = search needs
 
+measure-requires : tie.Need-measure-requires
+measure-requires c κs = search needs
+
 assess-readable-requires : tie.Need-assess-readable-requires
 assess-readable-requires c κs =
-    let s = start (c .before) in
-    (subst SmallLine (c .before .line .given .1) (s .pre .line), s .pre .kept)
+    let s = start (line c) in
+    ((subst SmallLine (line c .line .given .1) (s .pre .line), s .pre .kept), c .measure .ensures)
 
 enum-told : tie.Need-enum-told
 enum-told c = search needs
@@ -25,7 +31,7 @@ unassessed-requires c κs = search needs
 
 returns : tie.Need-returns
 unfolding unitAssessment
-returns c = rw (c .before .before .line .given .1) (c .assess-readable .ensures)
+returns c = rw (line (c .before) .line .given .1) (c .assess-readable .ensures)
 
 returns-2 : tie.Need-returns-2
 unfolding unitAssessment
@@ -36,6 +42,7 @@ assess-unit-spec =
     tie.close
     (tie.spec
     enum-known-line
+    measure-requires
     assess-readable-requires
     enum-told
     unassessed-requires

@@ -3,10 +3,10 @@ use borrow.Author.Needs.{needs}
 use native.Mathlib.Omega.{arith}
 use mathlib.Core.Path.{_≡_, refl, sym, ap, _∙_}
 use Prim.Native.Nat.{_-_, _≤_}
-use Rattle.intervals.specs.Plants.{place}
 use Rattle.signed.proofs.Sizes.{back32}
 use Rattle.operators.proofs.Operated.{located, located-units, refused-call, located-call}
 use Rattle.operators.proofs.Refusals.{operator-answered}
+use Rattle.plants.specs.Plants.{place}
 use Rattle.operators.specs.Operators.{declare, declareAt}
 use Rattle.operators.proofs.declare.Statement.{statement}
 use Rattle.operators.proofs.declare.Tie as tie

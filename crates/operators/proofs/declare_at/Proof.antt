@@ -10,7 +10,7 @@ use Rattle.operators.proofs.Operated.{accepted-at, refused-at}
 use Rattle.points.specs.Points.{declaredAt}
 use Rattle.points.specs.declared.Reason.the-variants.{ByOperator}
 use Rattle.points.specs.declared.Point.{Point}
-use Rattle.intervals.specs.Monitors.{pointAt}
+use Rattle.intervals.specs.Monitors.{plantIn, pointAt}
 use Rattle.operators.specs.Operators.{declare, permitDeclare, permit, change, stored}
 use Rattle.operators.proofs.declare_at.Statement.{statement}
 use Rattle.operators.proofs.declare_at.Tie as tie
@@ -28,8 +28,8 @@ abbrev point : tie.Start → Point
 point s = pointAt (s .args .t1) (s .args .i)
 
 permitted : (c : tie.After-permit-declare)
-    → let s = start c in c .permit-declare .result ≡ permit (s .args .t1 .plant) (s .args .i) (declare (s .args .level)) (point s)
-unfolding permit
+    → let s = start c in c .permit-declare .result ≡ permit (plantIn (s .args .t1)) (s .args .i) (declare (s .args .level)) (point s)
+unfolding permit plantIn
 permitted c =
     let s = start c in
     c .permit-declare .ensures ∙ ap₂ (λ (u : Bool) (z : ℤ). permitDeclare u z (point s)) (c .before .is-unidirectional-at .ensures) (level-is s)

@@ -5,7 +5,7 @@ use mathlib.Core.Bool.{true}
 use borrow.Author.Tests.{not-true, not-false}
 use Rattle.intervals.proofs.States.{units-small, aggregates-small}
 use Rattle.intervals.specs.Plants.{named}
-use Rattle.intervals.specs.Monitors.{soundOf}
+use Rattle.intervals.specs.Monitors.{plantIn, soundOf}
 use Rattle.operators.proofs.Operated.{named-is}
 use Rattle.operators.specs.Operators.{locateOf}
 use Rattle.operators.proofs.locate.Statement.{statement}
@@ -17,7 +17,8 @@ loaded c = c .before .before
 sound : (c : tie.Else1) → soundOf (c .before .before .args .m) ≡ true
 sound c = sym (c .before .is-sound .ensures) ∙ not-false _ (c .if1 .left)
 
-named-by : (c : tie.After-is-named) → let s = loaded c .before .before .args in named (s .m .plant) (s .point) ≡ c .is-named .result
+named-by : (c : tie.After-is-named) → let s = loaded c .before .before .args in named (plantIn (s .m)) (s .point) ≡ c .is-named .result
+unfolding plantIn
 named-by c = named-is _ _ ∙ sym (c .is-named .ensures)
 
 is-sound-requires : tie.Need-is-sound-requires

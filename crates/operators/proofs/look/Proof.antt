@@ -3,8 +3,8 @@ use borrow.Author.Needs.{needs}
 use native.Mathlib.Omega.{arith}
 use mathlib.Core.Path.{_≡_, refl, sym, _∙_}
 use Prim.Native.Nat.{_-_, _≤_}
-use Rattle.intervals.specs.Plants.{place}
 use Rattle.operators.proofs.Operated.{located, refused-look, located-look}
+use Rattle.plants.specs.Plants.{place}
 use Rattle.operators.proofs.Refusals.{looks}
 use Rattle.operators.proofs.look.Statement.{statement}
 use Rattle.operators.proofs.look.Tie as tie

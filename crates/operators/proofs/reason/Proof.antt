@@ -3,8 +3,8 @@ use native.Mathlib.Omega.{arith}
 use borrow.Author.Needs.{needs}
 use mathlib.Core.Path.{_≡_, refl, sym, _∙_}
 use Prim.Native.Nat.{_-_, _≤_}
-use Rattle.intervals.specs.Plants.{place}
 use Rattle.operators.proofs.Operated.{located, refused-reason, located-reason}
+use Rattle.plants.specs.Plants.{place}
 use Rattle.operators.proofs.Refusals.{reasons}
 use Rattle.operators.proofs.reason.Statement.{statement}
 use Rattle.operators.proofs.reason.Tie as tie

@@ -3,9 +3,9 @@ use borrow.Author.Needs.{needs}
 use native.Mathlib.Omega.{arith}
 use mathlib.Core.Path.{_≡_, refl, sym, _∙_}
 use Prim.Native.Nat.{_-_, _≤_}
-use Rattle.intervals.specs.Plants.{place}
 use Rattle.operators.proofs.Operated.{located, refused-call, located-call}
 use Rattle.operators.proofs.Refusals.{operator-answered}
+use Rattle.plants.specs.Plants.{place}
 use Rattle.operators.specs.Operators.{reinstate}
 use Rattle.operators.proofs.reinstate.Statement.{statement}
 use Rattle.operators.proofs.reinstate.Tie as tie

@@ -4,22 +4,21 @@ use Prim.Native.Nat.{_≤_, _-_}
 use borrow.Author.Needs.{needs}
 use Rattle.trace.specs.Sweeps.{every}
 use Rattle.trace.proofs.Sweeps.{every-none, every-more, every-end}
-use Rattle.plants.specs.Plants.{kindsKnown}
-use Rattle.plants.specs.Rules.{kindAt}
+use Rattle.plants.specs.Rosters.{kindAt, kindsKnown}
 use Rattle.plants.proofs.known_kinds.Statement.{statement}
 use Rattle.plants.proofs.known_kinds.Tie as tie
 
 abbrev Inv-loop : tie.InvT-loop
-Inv-loop plant count ok₀ i₀ ok i = (i ≤ plant .units) × (ok ≡ every (kindAt (plant .kinds)) i)
+Inv-loop units kinds ok₀ i₀ ok i = (i ≤ units) × (ok ≡ every (kindAt kinds) i)
 
 abbrev μ-loop : tie.MeasureT-loop
-μ-loop plant count ok₀ i₀ ok i = plant .units - i
+μ-loop units kinds ok₀ i₀ ok i = units - i
 
 loop-holds : tie.Need-loop-holds Inv-loop μ-loop
 loop-holds c = search (needs, every-none)
 
-element-copy-out-known-kind : tie.Need-element-copy-out-known-kind Inv-loop μ-loop
-element-copy-out-known-kind c = search needs
+array-read-known-kind : tie.Need-array-read-known-kind Inv-loop μ-loop
+array-read-known-kind c = search needs
 
 known-kind-requires : tie.Need-known-kind-requires Inv-loop μ-loop
 known-kind-requires c κs = search needs
@@ -44,7 +43,7 @@ known-kinds-spec =
     Inv-loop
     μ-loop
     loop-holds
-    element-copy-out-known-kind
+    array-read-known-kind
     known-kind-requires
     add-i
     loop-less

@@ -1,6 +1,6 @@
 -- `register::records_from` meets its contract. Each way out has the tests that led there. Assumes nothing.
 use borrow.Author.Needs.{needs}
-use Rattle.register.proofs.Readings.{units-read, aggregates-read, read-4, read-5, read-chains, read-sound}
+use Rattle.register.proofs.Readings.{units-read, aggregates-read, read-4, read-5, read-chains, read-walkable}
 use Rattle.register.proofs.records_from.Statement.{statement}
 use Rattle.register.proofs.records_from.Tie as tie
 
@@ -26,7 +26,7 @@ returns-2 : tie.Need-returns-2
 returns-2 c = search (needs, read-5)
 
 chained-from-requires : tie.Need-chained-from-requires
-chained-from-requires c κs = search (needs, read-sound)
+chained-from-requires c κs = search (needs, read-walkable)
 
 returns-3 : tie.Need-returns-3
 returns-3 c = search (needs, read-chains)

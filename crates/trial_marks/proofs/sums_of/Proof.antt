@@ -5,7 +5,7 @@ use borrow.Author.Needs.{needs}
 use Prim.Native.Nat.{_*_, _-_, _%_, _≤_, _<_}
 use native.Mathlib.Nat.{mod-lt}
 use Rattle.aggregates.specs.Sizes.{SmallSums}
-use Rattle.aggregates.proofs.Small.{member-more, no-sums-small, wider}
+use Rattle.aggregates.proofs.Small.{view-more, no-sums-small, wider}
 use Rattle.trial_marks.proofs.sums_of.Statement.{statement}
 use Rattle.trial_marks.proofs.sums_of.Tie as tie
 
@@ -37,8 +37,11 @@ mul-sight-at c = omega (arith, in-turn c)
 sight-at-requires : tie.Need-sight-at-requires Inv-loop μ-loop
 sight-at-requires c κs = omega (arith, in-turn c)
 
+view-of-requires : tie.Need-view-of-requires Inv-loop μ-loop
+view-of-requires c κs = c .sight-at .ensures
+
 plus-requires : tie.Need-plus-requires Inv-loop μ-loop
-plus-requires c κs = (wider (omega arith) (c .before .before .loop .inv .1), c .sight-at .ensures)
+plus-requires c κs = (wider (omega arith) (c .before .before .before .loop .inv .1), c .view-of .ensures)
 
 add-i : tie.Need-add-i Inv-loop μ-loop
 add-i c = omega arith
@@ -49,7 +52,7 @@ loop-less c = omega arith
 loop-again : tie.Need-loop-again Inv-loop μ-loop
 loop-again c =
     let m = c .before in
-    (omega arith, rw (c .plus .ensures) (wider (omega arith) (member-more _ _ (m .before .before .loop .inv .1) (m .sight-at .ensures))))
+    (omega arith, rw (c .plus .ensures) (wider (omega arith) (view-more _ _ (m .before .before .before .loop .inv .1) (m .view-of .ensures))))
 
 returns : tie.Need-returns Inv-loop μ-loop
 returns c = wider (omega arith) (c .before .loop .inv .1)
@@ -65,6 +68,7 @@ sums-of-spec =
     rem-sight-at
     mul-sight-at
     sight-at-requires
+    view-of-requires
     plus-requires
     add-i
     loop-less

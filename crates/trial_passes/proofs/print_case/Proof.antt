@@ -4,7 +4,7 @@ use mathlib.Core.Path.{sym, _∙_}
 use Rattle.trial_passes.proofs.print_case.Statement.{statement}
 use Rattle.trial_passes.proofs.print_case.Tie as tie
 
-abbrev start : tie.After-plant-sound → tie.Start
+abbrev start : tie.After-roster-sound → tie.Start
 start c = c .before .before .before .before .before .before .before .before .before
 
 read-register-requires : tie.Need-read-register-requires
@@ -13,16 +13,11 @@ read-register-requires c κs = search needs
 enum-told : tie.Need-enum-told
 enum-told c = search needs
 
-plant-sound-requires : tie.Need-plant-sound-requires
-plant-sound-requires c κs = search needs
+roster-sound-requires : tie.Need-roster-sound-requires
+roster-sound-requires c κs = search needs
 
-sights-requires : tie.Need-sights-requires
-sights-requires c κs =
-    let p = c .before in
-    (sym (p .plant-sound .ensures) ∙ c .if1 .taken, start p .pre)
-
-print-passes-requires : tie.Need-print-passes-requires
-print-passes-requires c κs = search needs
+print-roster-requires : tie.Need-print-roster-requires
+print-roster-requires c κs = let p = c .before in (sym (p .roster-sound .ensures) ∙ c .if1 .taken, start p .pre)
 
 enum-known-answer : tie.Need-enum-known-answer
 enum-known-answer c = search needs
@@ -45,9 +40,8 @@ print-case-spec =
     (tie.spec
     read-register-requires
     enum-told
-    plant-sound-requires
-    sights-requires
-    print-passes-requires
+    roster-sound-requires
+    print-roster-requires
     enum-known-answer
     print-refused-requires
     returns

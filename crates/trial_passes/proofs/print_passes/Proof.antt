@@ -6,10 +6,10 @@ use Rattle.trial_passes.proofs.print_passes.Statement.{statement}
 use Rattle.trial_passes.proofs.print_passes.Tie as tie
 
 abbrev Inv-loop : tie.InvT-loop
-Inv-loop label plant seen aggregates j₀ j = j ≤ aggregates
+Inv-loop label aggregates passes j₀ j = j ≤ aggregates
 
 abbrev μ-loop : tie.MeasureT-loop
-μ-loop label plant seen aggregates j₀ j = aggregates - j
+μ-loop label aggregates passes j₀ j = aggregates - j
 
 loop-holds : tie.Need-loop-holds Inv-loop μ-loop
 loop-holds c = omega arith
@@ -17,8 +17,11 @@ loop-holds c = omega arith
 add-print-pass : tie.Need-add-print-pass Inv-loop μ-loop
 add-print-pass c = omega arith
 
-assess-aggregate-requires : tie.Need-assess-aggregate-requires Inv-loop μ-loop
-assess-aggregate-requires c κs = search needs
+mul-print-pass : tie.Need-mul-print-pass Inv-loop μ-loop
+mul-print-pass c = omega arith
+
+array-copy-out-print-pass : tie.Need-array-copy-out-print-pass Inv-loop μ-loop
+array-copy-out-print-pass c = omega arith
 
 print-pass-requires : tie.Need-print-pass-requires Inv-loop μ-loop
 print-pass-requires c κs = search needs
@@ -43,7 +46,8 @@ print-passes-spec =
     μ-loop
     loop-holds
     add-print-pass
-    assess-aggregate-requires
+    mul-print-pass
+    array-copy-out-print-pass
     print-pass-requires
     add-j
     loop-less

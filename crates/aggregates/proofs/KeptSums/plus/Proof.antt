@@ -1,11 +1,13 @@
 -- `aggregates::KeptSums::plus` meets its contract. Assumes nothing.
 use native.Mathlib.Omega.{arith}
 use borrow.Author.Needs.{needs}
-use mathlib.Core.Path.{_∙_}
+use mathlib.Core.Path.{_≡_, _∙_}
 use lib.Dec.{lit<}
+use mir.Syntax.{w32}
+use mir.Val.{toZ, ofZ}
 use Rattle.signed.proofs.Sizes.{held32}
-use Rattle.aggregates.specs.Aggregates.{addKept}
 use Rattle.signed.proofs.Results.{result64}
+use Rattle.aggregates.specs.Views.{keptWith}
 use Rattle.aggregates.proofs.Held.{held-kept}
 use Rattle.aggregates.proofs.KeptSums.plus.Statement.{statement}
 use Rattle.aggregates.proofs.KeptSums.plus.Tie as tie
@@ -18,6 +20,10 @@ target c = c .before .before .before
 
 abbrev raise : tie.After-plus2 → tie.After-plus
 raise c = c .before .before .before
+
+-- the member's kept target, as locals hold it
+target-is : (s : tie.Start) → toZ w32 (ofZ w32 (s .args .member .«kept_target»)) ≡ s .args .member .«kept_target»
+target-is s = held32 (s .args .member .«kept_target») (search needs)
 
 add-signed-requires : tie.Need-add-signed-requires
 add-signed-requires c κs = let held = held-kept (c .before .before .pre) (lit< tt) in omega arith
@@ -39,12 +45,12 @@ plus-requires-2 c κs =
     rw (result64 (c .before .whole2) ∙ c .before .whole2 .ensures) (omega arith)
 
 returns : tie.Need-returns
-unfolding addKept
+unfolding keptWith
 returns c =
     let s = start (target (raise c)) in
     let held = held-kept (s .pre) (lit< tt) in
     cc (
-      held32 (s .args .k .target) (search needs),
+      target-is s,
       result64 (target (raise c) .add-signed),
       result64 (raise c .before .before .whole),
       result64 (raise c .plus),
@@ -55,4 +61,10 @@ returns c =
 pub plus-spec : {M : Type 1} → statement M
 plus-spec =
     tie.close
-    (tie.spec add-signed-requires whole-requires plus-requires whole-requires-2 plus-requires-2 returns)
+    (tie.spec
+    add-signed-requires
+    whole-requires
+    plus-requires
+    whole-requires-2
+    plus-requires-2
+    returns)

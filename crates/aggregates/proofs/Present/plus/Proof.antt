@@ -1,10 +1,13 @@
 -- `aggregates::Present::plus` meets its contract. Assumes nothing.
-use borrow.Author.Needs.{needs}
 use native.Mathlib.Omega.{arith}
+use borrow.Author.Needs.{needs}
+use mathlib.Core.Path.{_≡_}
 use lib.Dec.{lit<}
+use mir.Syntax.{w32}
+use mir.Val.{toZ, ofZ}
 use Rattle.signed.proofs.Sizes.{held32}
-use Rattle.aggregates.specs.Aggregates.{addPresent}
-use Rattle.signed.proofs.Results.{result32, result64}
+use Rattle.signed.proofs.Results.{result64}
+use Rattle.aggregates.specs.Views.{presentWith}
 use Rattle.aggregates.proofs.Held.{held-present}
 use Rattle.aggregates.proofs.Present.plus.Statement.{statement}
 use Rattle.aggregates.proofs.Present.plus.Tie as tie
@@ -12,35 +15,34 @@ use Rattle.aggregates.proofs.Present.plus.Tie as tie
 abbrev start : tie.After-add-signed → tie.Start
 start c = c .before .before .before
 
-abbrev target : tie.After-power-in → tie.After-add-signed
+abbrev target : tie.After-struct-told4 → tie.After-add-signed
 target c = c .before .before
+
+-- the member's numbers, as locals hold them
+target-is : (s : tie.Start) → toZ w32 (ofZ w32 (s .args .member .target)) ≡ s .args .member .target
+target-is s = held32 (s .args .member .target) (search needs)
+
+power-is : (s : tie.Start) → toZ w32 (ofZ w32 (s .args .member .power)) ≡ s .args .member .power
+power-is s = held32 (s .args .member .power) (search needs)
 
 add-signed-requires : tie.Need-add-signed-requires
 add-signed-requires c κs = let held = held-present (c .before .before .pre) (lit< tt) in omega arith
 
-power-requires : tie.Need-power-requires
-power-requires c κs = search needs
-
-power-in-requires : tie.Need-power-in-requires
-power-in-requires c κs = search needs
-
 add-signed-requires-2 : tie.Need-add-signed-requires-2
-add-signed-requires-2 c κs = let held = held-present (start (target (c .before)) .pre) (lit< tt) in omega arith
+add-signed-requires-2 c κs = let held = held-present (start (target c) .pre) (lit< tt) in omega arith
 
 returns : tie.Need-returns
-unfolding addPresent
+unfolding presentWith
 returns c =
-    let power = c .before .before in
-    let s = start (target power) in
+    let first = target (c .before) in
+    let s = start first in
     let held = held-present (s .pre) (lit< tt) in
     cc (
-      held32 (s .args .f .target) (search needs),
-      result64 (target power .add-signed),
-      result32 (power .power-in),
+      target-is s,
+      power-is s,
+      result64 (first .add-signed),
       result64 (c .add-signed2),
     )
 
 pub plus-spec : {M : Type 1} → statement M
-plus-spec =
-    tie.close
-    (tie.spec add-signed-requires power-requires power-in-requires add-signed-requires-2 returns)
+plus-spec = tie.close (tie.spec add-signed-requires add-signed-requires-2 returns)

@@ -1,23 +1,23 @@
 -- `aggregates::Sums::plus_readable` meets its contract. Assumes nothing.
-use borrow.Author.Needs.{needs}
 use native.Mathlib.Omega.{arith}
-use Rattle.marks.proofs.Small.{capability-small}
-use Rattle.aggregates.specs.Aggregates.{addReadable}
+use borrow.Author.Needs.{needs}
 use Rattle.triggers.specs.Bounds.{SmallCapability}
+use Rattle.aggregates.specs.Views.{addReadableView}
+use Rattle.aggregates.proofs.Small.{view-capability-small}
 use Rattle.aggregates.proofs.Sums.plus_readable.Statement.{statement}
 use Rattle.aggregates.proofs.Sums.plus_readable.Tie as tie
 
-abbrev start : tie.After-capability-of → tie.Start
-start c = c .before .before .before .before .before .before .before
+abbrev start : tie.After-capability → tie.Start
+start c = c .before .before .before .before .before .before
 
-abbrev at-unit : tie.After-plus3 → tie.After-capability-of
+abbrev at-unit : tie.After-plus3 → tie.After-capability
 at-unit c = c .before .before .before
 
-unit-small : (c : tie.After-capability-of) → SmallCapability 2000000 (c .capability-of .result)
-unit-small c = rw (c .capability-of .ensures) (capability-small (start c .pre .1))
+unit-small : (c : tie.After-capability) → SmallCapability 2000000 (c .capability .result)
+unit-small c = rw (c .capability .ensures) (view-capability-small _ (start c .pre .1))
 
-capability-of-requires : tie.Need-capability-of-requires
-capability-of-requires c κs = search needs
+capability-requires : tie.Need-capability-requires
+capability-requires c κs = search needs
 
 plus-requires : tie.Need-plus-requires
 plus-requires c κs = search needs
@@ -35,7 +35,7 @@ plus-requires-5 : tie.Need-plus-requires-5
 plus-requires-5 c κs = let unit = at-unit (c .before) in omega (arith, start unit .pre .0, unit-small unit)
 
 returns : tie.Need-returns
-unfolding addReadable
+unfolding addReadableView
 returns c =
     let kept = c .before .before in
     rw (
@@ -44,14 +44,14 @@ returns c =
       kept .plus3 .ensures,
       kept .before .plus2 .ensures,
       kept .before .before .plus .ensures,
-      at-unit kept .capability-of .ensures,
+      at-unit kept .capability .ensures,
     )
 
 pub plus-readable-spec : {M : Type 1} → statement M
 plus-readable-spec =
     tie.close
     (tie.spec
-    capability-of-requires
+    capability-requires
     plus-requires
     plus-requires-2
     plus-requires-3
