@@ -1,5 +1,7 @@
 // Marks and levels of aggregates, from sums over their members (01, "Triggers and errors" and the list of marks under "Marks and runs"; 02,
 // 2026-02).
+#![tactic(auto)]
+
 ghost use Rattle.std.specs.Prelude.{◌≡◌, ◌^◌, ◌<◌, nat_abs};
 ghost use Rattle.marks.specs.Bounds.{SmallFields};
 ghost use Rattle.marks.specs.Measures.{measures_of};
@@ -16,7 +18,7 @@ use triggers::Capability;
 
 // A member as its aggregate's sums take it, in whole kW: whether it is a load, its line is readable, its conformance mode is not 0, it can be
 // assessed and its value is substituted; MWB, MW, MWO and both rates of this line; MWB, FCR and FCL of the kept one.
-#[derive(Drop)]
+#[derive(Clone, Copy)]
 pub struct View {
     pub load: bool,
     pub readable: bool,
@@ -61,6 +63,7 @@ fn narrowed(n: u64) -> u32
 }
 
 // A member whose line is readable.
+#[tactic(auto, unfolding(marks::specs::Measures::measures_of, crate::specs::Views::readable_view))]
 pub fn view_of(kind: u8, f: Fields, k: Kept, measures: Measures) -> View
     requires small_fields { SmallFields f }
     requires measures_value { measures ≡ measures_of f }
@@ -84,6 +87,7 @@ pub fn view_of(kind: u8, f: Fields, k: Kept, measures: Measures) -> View
     }
 }
 
+#[tactic(auto, unfolding(crate::specs::Views::unreadable_view))]
 pub fn unreadable_view(kind: u8) -> View
     ensures { result ≡ unreadable_view kind }
 {
@@ -93,6 +97,7 @@ pub fn unreadable_view(kind: u8) -> View
 }
 
 impl View {
+    #[tactic(auto, unfolding(crate::specs::Views::view_capability))]
     fn capability(self) -> Capability
         ensures { result ≡ view_capability self }
     {
@@ -111,7 +116,7 @@ impl View {
 
 // Of the members so far: whether every line is readable, some conformance mode is not 0, every member can be assessed, and some
 // value is substituted.
-#[derive(Drop)]
+#[derive(Clone, Copy)]
 pub struct Flags {
     pub readable: bool,
     pub monitored: bool,
@@ -120,14 +125,14 @@ pub struct Flags {
 }
 
 // Signed sums of this interval's MWB and MW.
-#[derive(Drop)]
+#[derive(Clone, Copy)]
 pub struct Present {
     pub target: i64,
     pub power: i64,
 }
 
 // Sums over kept lines: signed MWB, and FCR and FCL.
-#[derive(Drop)]
+#[derive(Clone, Copy)]
 pub struct KeptSums {
     pub target: i64,
     pub raise: i64,
@@ -135,7 +140,7 @@ pub struct KeptSums {
 }
 
 // An aggregate's members so far. `supply` is over kinds 1 and 3, `loads` over kind 2. No chain has a unit of kind 4.
-#[derive(Drop)]
+#[derive(Clone, Copy)]
 pub struct Sums {
     pub flags: Flags,
     pub present: Present,
@@ -145,6 +150,7 @@ pub struct Sums {
 }
 
 // A member's number on a sum: that of a load is subtracted.
+#[tactic(auto, unfolding(crate::specs::Aggregates::add_signed))]
 pub fn add_signed(load: bool, sum: i64, z: i32) -> i64
     requires { nat_abs sum < 2 ^ 60 }
     ensures { result ≡ add_signed load sum z }
@@ -157,6 +163,7 @@ pub fn add_signed(load: bool, sum: i64, z: i32) -> i64
 }
 
 impl Flags {
+    #[tactic(auto, unfolding(crate::specs::Views::flags_with))]
     fn plus(self, member: View) -> Flags
         ensures { result ≡ flags_with self member }
     {
@@ -177,6 +184,7 @@ impl Flags {
 }
 
 impl Present {
+    #[tactic(auto, unfolding(crate::specs::Views::present_with))]
     fn plus(self, member: View) -> Present
         requires { SmallPresent (2 ^ 59) self }
         ensures { result ≡ present_with self member }
@@ -189,6 +197,7 @@ impl Present {
 }
 
 impl KeptSums {
+    #[tactic(auto, unfolding(crate::specs::Views::kept_with))]
     fn plus(self, member: View) -> KeptSums
         requires { SmallKeptSums (2 ^ 59) self }
         ensures { result ≡ kept_with self member }
@@ -232,6 +241,7 @@ impl Sums {
         }
     }
 
+    #[tactic(auto, unfolding(crate::specs::Views::add_readable_view))]
     fn plus_readable(self, member: View) -> Sums
         requires { SmallSums (2 ^ 59) self × SmallView member }
         ensures { result ≡ add_readable_view self member }
@@ -252,6 +262,7 @@ impl Sums {
         }
     }
 
+    #[tactic(auto, unfolding(crate::specs::Aggregates::add_unreadable))]
     fn plus_unreadable(self) -> Sums
         ensures { result ≡ add_unreadable self }
     {
@@ -281,6 +292,7 @@ impl Sums {
         }
     }
 
+    #[tactic(auto, unfolding(crate::specs::Aggregates::aggregate_basis))]
     fn basis(self) -> Basis
         requires { SmallSums 130000000 self }
         ensures { result ≡ aggregate_basis self }
@@ -305,6 +317,7 @@ impl Sums {
     }
 
     // The assessment of the aggregate whose members these are.
+    #[tactic(auto, unfolding(crate::specs::Aggregates::sums_assessment))]
     pub fn assess(self) -> Assessment
         requires { SmallSums 130000000 self }
         ensures { result ≡ sums_assessment self }

@@ -1,11 +1,13 @@
 // Gregorian dates from 2000 to 2099 (02, 2026-05), and the date three months after one. A date becomes an ordinal, the number of its
 // day from the start of 2000 on, so that whoever keeps dates keeps and compares numbers.
+#![tactic(auto)]
+
 ghost use Rattle.std.specs.Prelude.{◌≡◌, true, ◌≤◌, min};
 ghost use Rattle.calendar.specs.Dates.{is_leap, month_length, days_before, is_month, is_date, moved_to, three_months_later};
 ghost use Rattle.calendar.specs.Ordinals.{days_of_years, ordinal_of, window_of, found_of, Placed};
 
 // Any three numbers: month 1 is January.
-#[derive(Drop)]
+#[derive(Clone, Copy)]
 pub struct Date {
     pub year: u32,
     pub month: u32,
@@ -13,14 +15,14 @@ pub struct Date {
 }
 
 // The ordinals of a date and of the date three months later.
-#[derive(Drop)]
+#[derive(Clone, Copy)]
 pub struct Window {
     pub start: u32,
     pub end: u32,
 }
 
 // What is found of three numbers: nothing where there is no such date.
-#[derive(Drop)]
+#[derive(Clone, Copy)]
 pub enum Found {
     At(Window),
     Nothing,
@@ -34,6 +36,7 @@ const DAYS_BEFORE: [u32; 26] = [
     0, 31, 60, 91, 121, 152, 182, 213, 244, 274, 305, 335, 366,
 ];
 
+#[tactic(auto, unfolding(crate::specs::Dates::is_leap))]
 fn is_leap(year: u32) -> bool
     ensures { result ≡ is_leap year }
 {
@@ -83,6 +86,7 @@ impl Date {
         ((2000 <= self.year) & (self.year <= 2099)) & ((1 <= self.month) & (self.month <= 12))
     }
 
+    #[tactic(auto, unfolding(crate::specs::Dates::is_date))]
     fn is_date(self) -> bool
         ensures { result ≡ is_date self }
     {
@@ -93,6 +97,7 @@ impl Date {
     }
 
     // The same day number in another month, or that month's last day.
+    #[tactic(auto, unfolding(crate::specs::Dates::moved_to))]
     fn moved_to(self, year: u32, month: u32) -> Date
         requires { (1 ≤ month) × (month ≤ 12) }
         ensures { result ≡ moved_to self year month }
@@ -104,6 +109,7 @@ impl Date {
         }
     }
 
+    #[tactic(auto, unfolding(crate::specs::Dates::three_months_later))]
     fn three_months_later(self) -> Date
         requires { is_date self ≡ true }
         ensures { result ≡ three_months_later self }
@@ -114,6 +120,7 @@ impl Date {
         self.moved_to(self.year + 1, self.month - 9)
     }
 
+    #[tactic(auto, unfolding(crate::specs::Ordinals::ordinal_of))]
     fn ordinal(self) -> u32
         requires { Placed self }
         ensures { result ≡ ordinal_of self }
@@ -121,6 +128,7 @@ impl Date {
         days_of_years(self.year - 2000) + (days_before(self.year, self.month) + self.day)
     }
 
+    #[tactic(auto, unfolding(crate::specs::Ordinals::window_of))]
     fn window(self) -> Window
         requires { is_date self ≡ true }
         ensures { result ≡ window_of self }
@@ -133,6 +141,7 @@ impl Date {
 }
 
 // The date's ordinal and that of the date three months later, where there is such a date.
+#[tactic(auto, unfolding(crate::specs::Ordinals::found_of))]
 pub fn window_of(date: Date) -> Found
     ensures { result ≡ found_of date }
 {

@@ -1,5 +1,7 @@
 // The chains of a register, as its records have them: the tests of them (01, "The register"; 02, 2026-01), and the walk that lays each
 // aggregate's members side by side (02, 2026-08). Nothing follows a chain after a load.
+#![tactic(auto)]
+
 pub mod visits;
 
 ghost use Rattle.std.specs.Prelude.{◌≡◌, ◌&&◌, ◌≤◌, leb};
@@ -9,7 +11,7 @@ ghost use Rattle.chains.specs.Rules.{next_at, head_at, ends_at, scheduled_at, in
 use plants::{Lengths, wide};
 
 // A unit's index is its number less one; 0 ends a chain. Entries past the counts are 0.
-#[derive(Drop)]
+#[derive(Clone, Copy)]
 pub struct Chains {
     pub units: usize,
     pub aggregates: usize,
@@ -60,6 +62,7 @@ fn heads_in(chains: Chains) -> bool
     ok
 }
 
+#[tactic(auto, unfolding(crate::specs::Rules::indices_in))]
 pub fn indices_in(chains: Chains) -> bool
     requires { (chains.units ≤ 64) × (chains.aggregates ≤ 16) }
     ensures { result ≡ indices_in chains }

@@ -9,7 +9,7 @@ use plants::wide;
 
 // Who was met so far, their places in the order of the steps, the steps taken, and whether a step met a unit again. The list has room for
 // 64 of them, which is enough where no unit is met twice.
-#[derive(Drop)]
+#[derive(Clone, Copy)]
 pub struct Walk {
     pub met: [bool; 64],
     pub members: [u8; 64],
@@ -18,14 +18,14 @@ pub struct Walk {
 }
 
 // Where each aggregate's members stand in the list, and how many there are.
-#[derive(Drop)]
+#[derive(Clone, Copy)]
 pub struct Stretches {
     pub starts: [u8; 16],
     pub counts: [u8; 16],
 }
 
 // The walk along all chains, and the stretch of each.
-#[derive(Drop)]
+#[derive(Clone, Copy)]
 pub struct Walked {
     pub walk: Walk,
     pub stretches: Stretches,

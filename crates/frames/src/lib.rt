@@ -1,4 +1,6 @@
 // Calls of a list in a file, whatever they are: the format stands in `specs/Frames.antt`.
+#![tactic(auto)]
+
 ghost use Rattle.std.specs.Prelude.{◌≡◌, ◌≤◌, length};
 ghost use Rattle.frames.specs.Frames.{wanted_by, is_frame};
 

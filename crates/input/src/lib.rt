@@ -1,4 +1,6 @@
 // Files, for the programs. What a file holds is not proved: no contract can say it.
+#![tactic(auto)]
+
 ghost use Rattle.std.specs.Prelude.{◌≡◌, ◌≤◌, length};
 ghost use Rattle.io.specs.Counts.{IsPrefixLen};
 

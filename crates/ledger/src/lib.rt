@@ -1,6 +1,8 @@
 // The ledger of one wholesale demand response unit (02, 2026-05; source 002, section 4.1): day after day it notes instances of
 // non-conformance, and whether three of them declare the unit. The ledger is a plain value: it goes into a call and the next one comes
 // back, and a refused call returns the one that it was given.
+#![tactic(auto)]
+
 mod nonconformance;
 
 ghost use Rattle.std.specs.Prelude.{◌≡◌};
@@ -13,14 +15,14 @@ use records::Flag;
 use response::Day;
 
 // An instance of non-conformance: the ordinal of the date three months later, and whether a conformant day has come since.
-#[derive(Drop)]
+#[derive(Clone, Copy)]
 pub struct Instance {
     pub end: u32,
     pub conformed: bool,
 }
 
 // The latest instances since reinstatement, the earlier first. A third is held to the earlier of two, which is then needed no more.
-#[derive(Drop)]
+#[derive(Clone, Copy)]
 pub enum Instances {
     Zero,
     One(Instance),
@@ -28,7 +30,7 @@ pub enum Instances {
 }
 
 // `latest` is the ordinal of the last accepted date, 0 where there is none. Any values make a ledger: no call asks anything of them.
-#[derive(Drop)]
+#[derive(Clone, Copy)]
 pub struct Ledger {
     pub latest: u32,
     pub instances: Instances,
@@ -36,20 +38,20 @@ pub struct Ledger {
 }
 
 // What a day is to the ledger.
-#[derive(Drop)]
+#[derive(Clone, Copy)]
 pub(crate) enum Conduct {
     Undispatched,
     Conformant,
     Nonconformant,
 }
 
-#[derive(Drop)]
+#[derive(Clone, Copy)]
 pub enum Verdict {
     Accept,
     Refuse(u32),
 }
 
-#[derive(Drop)]
+#[derive(Clone, Copy)]
 pub struct Stepped {
     pub ledger: Ledger,
     pub verdict: Verdict,
@@ -57,6 +59,7 @@ pub struct Stepped {
 
 impl Verdict {
     // The refusal's number in 02, 0 where the call is accepted.
+    #[tactic(auto, unfolding(crate::specs::Ledgers::verdict_number))]
     pub fn number(self) -> u32
         ensures { result ≡ verdict_number self }
     {
@@ -97,6 +100,7 @@ fn has_flag(day: Day) -> bool
     is_flagged(flag) | ((0 < day.under) | (0 < day.over))
 }
 
+#[tactic(auto, unfolding(crate::specs::Days::conduct_of))]
 fn conduct_of(day: Day) -> Conduct
     ensures { result ≡ conduct_of day }
 {
@@ -111,6 +115,7 @@ fn conduct_of(day: Day) -> Conduct
 
 impl Ledger {
     // A day that is accepted.
+    #[tactic(auto, unfolding(crate::specs::Ledgers::entered))]
     fn entered(self, window: Window, conduct: Conduct) -> Ledger
         ensures { result ≡ entered self window conduct }
     {
@@ -125,6 +130,7 @@ impl Ledger {
 }
 
 // A day whose date there is.
+#[tactic(auto, unfolding(crate::specs::Ledgers::stepped_by, trace::specs::Refusals::first_refusal))]
 fn enter_at(ledger: Ledger, window: Window, day: Day) -> Stepped
     ensures { result ≡ enter_at ledger window day }
 {
@@ -156,6 +162,7 @@ pub fn enter(ledger: Ledger, date: Date, day: Day) -> Stepped
 
 // ---- reinstatement
 
+#[tactic(auto, unfolding(crate::specs::Ledgers::reinstated))]
 pub fn reinstate(ledger: Ledger) -> Stepped
     ensures { Answered (reinstate_of ledger) (reinstate_refusal ledger) result }
 {

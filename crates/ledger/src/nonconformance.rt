@@ -50,6 +50,7 @@ impl Instances {
     }
 
     // After a day, whose three months end there.
+    #[tactic(auto, unfolding(crate::specs::Ledgers::instances_after))]
     pub(crate) fn after(self, conduct: Conduct, end: u32) -> Instances
         ensures { result ≡ instances_after conduct end self }
     {
@@ -64,6 +65,7 @@ impl Instances {
     }
 
     // Whether an instance on that day, the third, declares the unit.
+    #[tactic(auto, unfolding(crate::specs::Ledgers::third_declares))]
     pub(crate) fn third_declares(self, third: u32) -> bool
         ensures { result ≡ third_declares self third }
     {

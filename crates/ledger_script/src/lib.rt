@@ -1,5 +1,7 @@
 // A list of calls on a ledger in a file (02, 2026-05), step by step: a call is read, made and answered in text. The format stands in
 // `specs/Items.antt`.
+#![tactic(auto)]
+
 mod texts;
 
 ghost use Rattle.std.specs.Prelude.{◌≡◌, ◌≤◌, length};
@@ -11,7 +13,7 @@ use ledger::Ledger;
 use response::{Answer, Day};
 
 // The next ledger, whether the run goes on, and the text: the first `length` bytes of the buffer that was lent.
-#[derive(Drop)]
+#[derive(Clone, Copy)]
 pub struct Turn {
     pub ledger: Ledger,
     pub more: bool,

@@ -37,6 +37,7 @@ fn put_flagged(out: &mut [u8; 128], day: Day, flag: &[u8], declared: bool) -> us
     put_declared(out, end, declared)
 }
 
+#[tactic(auto, unfolding(crate::specs::Texts::accepted_text))]
 fn put_accepted(out: &mut [u8; 128], day: Day, declared: bool) -> usize
     ensures { Put out.old 0 (accepted_text day declared) result out.new }
 {

@@ -1,6 +1,8 @@
 // Errors, marks and levels: of units, and what aggregates share with them (01, "Triggers and errors" and the list of marks under
 // "Marks and runs"; 02, 2026-01 and 2026-02).
 // Power is in kW, ramp rates in kW per minute, triggers in hundredths of a kW.
+#![tactic(auto)]
+
 ghost use Rattle.std.specs.Prelude.{◌≡◌, ◌^◌, ◌<◌, nat_abs};
 ghost use Rattle.triggers.specs.Triggers.{direction_of, rate_of};
 ghost use Rattle.marks.specs.Errors.{over_of, under_of, error_of, exceeds};
@@ -17,7 +19,7 @@ use triggers::Capability;
 // ---- kept lines
 
 // What the interval before left of a unit's line. Without `have` the rest is 0 and false. The cap flag plays a part for kind 4 alone.
-#[derive(Drop)]
+#[derive(Clone, Copy)]
 pub struct Kept {
     pub have: bool,
     pub capped: bool,
@@ -39,6 +41,7 @@ pub fn nothing_kept() -> Kept
 }
 
 // A readable line is kept, whatever its quality; an unreadable one leaves nothing.
+#[tactic(auto, unfolding(crate::specs::KeptLines::kept_from))]
 pub fn kept_from(line: Line) -> Kept
     ensures { result ≡ kept_from line }
 {
@@ -55,6 +58,7 @@ pub fn kept_from(line: Line) -> Kept
 }
 
 // Whether a kept line is within the bounds of a readable one.
+#[tactic(auto, unfolding(crate::specs::KeptLines::kept_bounded))]
 pub fn kept_bounded(k: Kept) -> bool
     ensures { result ≡ kept_bounded k }
 {
@@ -64,7 +68,7 @@ pub fn kept_bounded(k: Kept) -> bool
 
 // ---- the assessment of a point
 
-#[derive(Drop)]
+#[derive(Clone, Copy)]
 pub enum Mark {
     Off,
     Blank,
@@ -75,7 +79,7 @@ pub enum Mark {
 }
 
 // The mark, the signed error, the small trigger, and the level at which the mark would declare the point.
-#[derive(Drop)]
+#[derive(Clone, Copy)]
 pub struct Assessment {
     pub mark: Mark,
     pub error: i32,
@@ -85,7 +89,7 @@ pub struct Assessment {
 
 // What a point that is neither Off nor Blank is assessed from. Where it is capped, only a positive error counts; where it is a unit of kind 1, 2
 // or 4, its level is not negative.
-#[derive(Drop)]
+#[derive(Clone, Copy)]
 pub struct Basis {
     pub power: i64,
     pub target: i64,
@@ -115,6 +119,7 @@ fn under_of(b: Basis) -> i64
 }
 
 // `over` where it is positive, else `under` where it is negative, else 0.
+#[tactic(auto, unfolding(crate::specs::Errors::error_of))]
 fn error_of(b: Basis) -> i64
     requires { SmallBasis b }
     ensures { result ≡ error_of b }
@@ -130,6 +135,7 @@ fn error_of(b: Basis) -> i64
     0
 }
 
+#[tactic(auto, unfolding(crate::specs::Errors::exceeds))]
 fn over_trigger(error: i64, trigger: u64) -> bool
     requires { nat_abs error < 2 ^ 40 }
     ensures { result ≡ exceeds error trigger }
@@ -137,6 +143,7 @@ fn over_trigger(error: i64, trigger: u64) -> bool
     trigger < signed::size(error) * 100
 }
 
+#[tactic(auto, unfolding(crate::specs::Assessments::mark_of))]
 fn mark_of(error: i64, small: u64, large: u64, doubtful: bool) -> Mark
     requires { nat_abs error < 2 ^ 40 }
     ensures { result ≡ mark_of error small large doubtful }
@@ -153,6 +160,7 @@ fn mark_of(error: i64, small: u64, large: u64, doubtful: bool) -> Mark
     Mark::Clear
 }
 
+#[tactic(auto, unfolding(crate::specs::Assessments::judged))]
 pub fn judge(b: Basis) -> Assessment
     requires { SmallBasis b }
     ensures { result ≡ judged b }
@@ -184,6 +192,7 @@ pub fn unassessed(mark: Mark) -> Assessment
 }
 
 // MW as whole kW, where there is a value.
+#[tactic(auto, unfolding(crate::specs::Assessments::kilowatts_in))]
 pub fn power_in(reading: Reading) -> i32
     ensures { result ≡ kilowatts_in reading }
 {
@@ -194,6 +203,7 @@ pub fn power_in(reading: Reading) -> i32
     }
 }
 
+#[tactic(auto, unfolding(crate::specs::Assessments::is_missing))]
 fn is_missing(reading: Reading) -> bool
     ensures { result ≡ is_missing reading }
 {
@@ -205,6 +215,7 @@ fn is_missing(reading: Reading) -> bool
 }
 
 // A mark beyond a trigger turns to Doubt on a substituted value.
+#[tactic(auto, unfolding(crate::specs::Assessments::is_doubtful))]
 pub fn is_doubtful(reading: Reading) -> bool
     ensures { result ≡ is_doubtful reading }
 {
@@ -216,6 +227,7 @@ pub fn is_doubtful(reading: Reading) -> bool
 }
 
 // Whether a readable line can be assessed: it has a value, and a line is kept before it.
+#[tactic(auto, unfolding(crate::specs::Assessments::is_known))]
 pub fn is_known(f: Fields, k: Kept) -> bool
     ensures { result ≡ is_known f k }
 {
@@ -225,7 +237,7 @@ pub fn is_known(f: Fields, k: Kept) -> bool
 // ---- a unit
 
 // A unit as an interval shows it.
-#[derive(Drop)]
+#[derive(Clone, Copy)]
 pub struct Sight {
     pub kind: u8,
     pub line: Line,
@@ -253,12 +265,13 @@ fn down_of(kind: u8, k: Kept) -> i64
 }
 
 // What a readable line comes to in whole kW.
-#[derive(Drop)]
+#[derive(Clone, Copy)]
 pub struct Measures {
     pub power: i32,
     pub capability: Capability,
 }
 
+#[tactic(auto, unfolding(crate::specs::Measures::measures_of))]
 pub fn measure(f: Fields) -> Measures
     ensures { result ≡ measures_of f }
 {
@@ -292,6 +305,7 @@ fn is_uncapped(kind: u8, flag: bool) -> bool
     (kind == 4) & !flag
 }
 
+#[tactic(auto, unfolding(crate::specs::Assessments::unit_basis, crate::specs::Measures::measures_of))]
 fn unit_basis(kind: u8, f: Fields, k: Kept, measures: Measures) -> Basis
     requires { measures ≡ measures_of f }
     ensures { result ≡ unit_basis kind f k }
@@ -311,6 +325,7 @@ fn unit_basis(kind: u8, f: Fields, k: Kept, measures: Measures) -> Basis
 }
 
 // A unit that has a value and a kept line.
+#[tactic(auto, unfolding(crate::specs::Assessments::known_assessment))]
 fn assess_known(kind: u8, f: Fields, k: Kept, measures: Measures) -> Assessment
     requires small_fields { SmallFields f × SmallKept k }
     requires measures_value { measures ≡ measures_of f }
@@ -323,6 +338,7 @@ fn assess_known(kind: u8, f: Fields, k: Kept, measures: Measures) -> Assessment
 }
 
 // A unit whose line is readable.
+#[tactic(auto, unfolding(crate::specs::Assessments::readable_assessment))]
 pub fn assess_readable(
     kind: u8,
     chained: bool,
@@ -345,6 +361,7 @@ pub fn assess_readable(
 }
 
 // The assessment of a unit, which stands in a chain or in none.
+#[tactic(auto, unfolding(crate::specs::Assessments::unit_assessment))]
 pub fn assess_unit(chained: bool, unit: Sight) -> Assessment
     requires { SmallSight unit }
     ensures { result ≡ unit_assessment chained unit }
@@ -359,6 +376,7 @@ pub fn assess_unit(chained: bool, unit: Sight) -> Assessment
 
 // ---- the C host's function
 
+#[tactic(auto, unfolding(crate::specs::Hosts::mark_number))]
 pub fn mark_number(mark: Mark) -> u8
     ensures { result ≡ mark_number mark }
 {
@@ -372,6 +390,7 @@ pub fn mark_number(mark: Mark) -> u8
     }
 }
 
+#[tactic(auto, unfolding(crate::specs::Hosts::second_mark))]
 fn second_mark(kind: u8, earlier: &[u8], later: &[u8]) -> u8
     ensures { result ≡ second_mark kind earlier.now later.now }
 {
@@ -385,6 +404,7 @@ fn second_mark(kind: u8, earlier: &[u8], later: &[u8]) -> u8
 // The mark, as 01 numbers it, for the second of two successive lines of a unit in no chain; 6 for an unknown kind or a line
 // that is not 40 bytes.
 #[unsafe(no_mangle)]
+#[tactic(auto, unfolding(crate::specs::Hosts::unit_mark_of))]
 pub extern "C" fn unit_mark(kind: u32, earlier: &[u8], later: &[u8]) -> u32
     ensures { result ≡ unit_mark_of kind earlier.now later.now }
 {

@@ -2,6 +2,8 @@
 //
 // What it prints of what it read is proved (crate `program`). Reading, writing and going on are left: no contract can say what a
 // file holds. A file that cannot be opened, or not read, counts as empty.
+#![tactic(auto)]
+
 ghost use Rattle.std.specs.Prelude.{length};
 
 use monitor::Monitor;
@@ -14,7 +16,7 @@ fn write(out: &[u8], length: usize) -> bool {
 // ---- intervals.bin
 
 // Whether the run goes on, and the next state.
-#[derive(Drop)]
+#[derive(Clone, Copy)]
 struct Run {
     more: bool,
     monitor: Monitor,

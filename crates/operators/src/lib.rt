@@ -1,4 +1,6 @@
 // The operator calls (01, "Report and operator calls"; 02, 2026-06 and 2026-07).
+#![tactic(auto)]
+
 ghost use Rattle.std.specs.Prelude.{◌≡◌, ◌&&◌, ◌+◌, ◌≤◌, ◌<◌, leb};
 ghost use Rattle.plants.specs.Rosters.{held};
 ghost use Rattle.intervals.specs.Plants.{is_unidirectional_at};
@@ -13,7 +15,7 @@ use points::{Point, Reason};
 use targets::Target;
 
 // What a look answers: the point's record, or zeros where it is refused. The state is the one that came in.
-#[derive(Drop)]
+#[derive(Clone, Copy)]
 pub struct Looked {
     pub verdict: Verdict,
     pub point: Point,
@@ -21,7 +23,7 @@ pub struct Looked {
 }
 
 // Why a point is declared, or the operator where the call is refused. The state is the one that came in.
-#[derive(Drop)]
+#[derive(Clone, Copy)]
 pub struct Reasoned {
     pub verdict: Verdict,
     pub reason: Reason,
@@ -29,7 +31,7 @@ pub struct Reasoned {
 }
 
 // An aggregate's own target, or zeros where the call is refused. The state is the one that came in.
-#[derive(Drop)]
+#[derive(Clone, Copy)]
 pub struct Targeted {
     pub verdict: Verdict,
     pub target: Target,
@@ -45,6 +47,7 @@ fn is_named(units: usize, aggregates: usize, point: u32) -> bool
 }
 
 // 20, then 10.
+#[tactic(auto, unfolding(intervals::specs::Monitors::plant_in, crate::specs::Operators::locate_of))]
 fn locate(m: Monitor, point: u32) -> Verdict
     ensures { result ≡ locate_of m point }
 {
@@ -59,6 +62,7 @@ fn locate(m: Monitor, point: u32) -> Verdict
 }
 
 // Whether the point at place i is that of a unit of kind 1, 2 or 4.
+#[tactic(auto, unfolding(intervals::specs::Plants::is_unidirectional_at))]
 fn is_unidirectional_at(roster: Roster, i: usize) -> bool
     requires { roster.units ≤ 64 }
     ensures { result ≡ is_unidirectional_at (held roster) i }
@@ -70,6 +74,7 @@ fn is_unidirectional_at(roster: Roster, i: usize) -> bool
 }
 
 // 11: within ±128,000,000, and not negative where that cannot be dispatched.
+#[tactic(auto, unfolding(crate::specs::Operators::allowed_level))]
 fn level_allowed(unidirectional: bool, level: i32) -> bool
     ensures { result ≡ allowed_level unidirectional level }
 {
@@ -100,6 +105,7 @@ fn permit_declared(q: Point, refusal: u32) -> Verdict
     Verdict::Refuse(refusal)
 }
 
+#[tactic(auto, unfolding(crate::specs::Operators::stored))]
 fn store(m: Monitor, i: usize, q: Point) -> Monitor
     requires { i < 80 }
     ensures { result ≡ stored m i q }
@@ -109,6 +115,7 @@ fn store(m: Monitor, i: usize, q: Point) -> Monitor
     next
 }
 
+#[tactic(auto, unfolding(crate::specs::Operators::permit, intervals::specs::Monitors::plant_in, crate::specs::Operators::change))]
 fn declare_at(m: Monitor, i: usize, level: i32) -> Stepped
     requires { (i < 80) × (m.roster.units ≤ 64) }
     ensures { result ≡ declare_at m i level }
@@ -127,6 +134,7 @@ fn declare_at(m: Monitor, i: usize, level: i32) -> Stepped
     }
 }
 
+#[tactic(auto, unfolding(crate::specs::Operators::permit, crate::specs::Operators::change))]
 fn reinstate_at(m: Monitor, i: usize) -> Stepped
     requires { i < 80 }
     ensures { result ≡ reinstate_at m i }
@@ -173,6 +181,7 @@ pub fn reinstate(m: Monitor, point: u32) -> Stepped
     }
 }
 
+#[tactic(auto, unfolding(crate::specs::Operators::looked_at))]
 fn look_at(m: Monitor, i: usize) -> Looked
     requires { i < 80 }
     ensures { result ≡ looked_at m i }

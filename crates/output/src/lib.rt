@@ -1,4 +1,6 @@
 // Standard output, for the programs. What is written is not proved: no contract can say it.
+#![tactic(auto)]
+
 use libc::STDOUT_FILENO;
 
 // Writes the first `length` bytes of `text` in one write, and says whether that went well. A write that fails is told in a line on

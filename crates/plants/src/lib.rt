@@ -1,10 +1,12 @@
 // What a monitor holds of a register: run lengths, units, kinds, and each aggregate's members side by side (01, "The register"; 02,
 // 2026-08).
+#![tactic(auto)]
+
 ghost use Rattle.std.specs.Prelude.{◌≡◌, ◌≤◌, ◌<◌};
 ghost use Rattle.plants.specs.Rosters.{no_roster, counts_in, kind_known, kinds_known, places_in, stretch_in, stretches_in, roster_sound};
 
 // Run lengths: to Not-Responding, to Pending, to declaration.
-#[derive(Drop)]
+#[derive(Clone, Copy)]
 pub struct Lengths {
     pub not_responding: u8,
     pub pending: u8,
@@ -14,7 +16,7 @@ pub struct Lengths {
 // A unit's place is its number less one. `members` has the places of all members, aggregate after aggregate, each in the order of its chain:
 // aggregate j has `counts[j]` of them, from `starts[j]` on. `chained` is whether a unit is a member of some aggregate. Entries past the
 // counts are 0 and false.
-#[derive(Drop)]
+#[derive(Clone, Copy)]
 pub struct Roster {
     pub units: usize,
     pub aggregates: usize,
@@ -28,6 +30,7 @@ pub struct Roster {
 }
 
 // A roster of zeros.
+#[tactic(auto, unfolding(crate::specs::Rosters::no_roster))]
 pub fn no_roster() -> Roster
     ensures { result ≡ no_roster }
 {
@@ -72,6 +75,7 @@ fn known_kind(kind: u8) -> bool
     (1 <= kind) & (kind <= 4)
 }
 
+#[tactic(auto, unfolding(crate::specs::Rosters::kinds_known))]
 pub fn known_kinds(kinds: [u8; 64], units: usize) -> bool
     requires { units ≤ 64 }
     ensures { result ≡ kinds_known kinds units }
@@ -86,6 +90,7 @@ pub fn known_kinds(kinds: [u8; 64], units: usize) -> bool
 }
 
 // Every entry of the list is the place of a unit, past the last stretch too.
+#[tactic(auto, unfolding(crate::specs::Rosters::places_in))]
 fn places_in(members: [u8; 64], units: usize) -> bool
     ensures { result ≡ places_in members units }
 {
@@ -105,6 +110,7 @@ fn stretch_in(start: u8, count: u8) -> bool
     wide(start) + wide(count) <= 64
 }
 
+#[tactic(auto, unfolding(crate::specs::Rosters::stretches_in))]
 fn stretches_in(starts: [u8; 16], counts: [u8; 16], aggregates: usize) -> bool
     requires { aggregates ≤ 16 }
     ensures { result ≡ stretches_in starts counts aggregates }

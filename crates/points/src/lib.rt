@@ -1,5 +1,7 @@
 // A point's record (01, "Marks and runs"), why it is declared (02, 2026-06), and its 16 bytes of the report ("Report and operator
 // calls").
+#![tactic(auto)]
+
 ghost use Rattle.std.specs.Prelude.{◌≡◌, ◌+◌, ◌≤◌, min, length};
 ghost use Rattle.wire.specs.Fields.{put_at};
 ghost use Rattle.points.specs.Points.{no_run, longer, stored_run, span_to, span_of, reason_of, normal, declared_at, cleared, counted};
@@ -10,21 +12,21 @@ use marks::{Assessment, Mark};
 use plants::Lengths;
 
 // The marks that a run has counted, as stored, and the interval number of the first of them. No run: 0 and 0.
-#[derive(Drop)]
+#[derive(Clone, Copy)]
 pub struct Run {
     pub count: u8,
     pub first: u32,
 }
 
 // The interval numbers of the first mark counted in a run and of the declaring mark.
-#[derive(Drop)]
+#[derive(Clone, Copy)]
 pub struct Span {
     pub first: u32,
     pub last: u32,
 }
 
 // Why a point is declared.
-#[derive(Drop)]
+#[derive(Clone, Copy)]
 pub enum Reason {
     ByOperator,
     BySmallRun(Span),
@@ -33,6 +35,7 @@ pub enum Reason {
 
 impl Reason {
     // What is told of it, both 0 for the operator.
+    #[tactic(auto, unfolding(crate::specs::Points::span_of))]
     pub fn span(self) -> Span
         ensures { result ≡ span_of self }
     {
@@ -46,7 +49,7 @@ impl Reason {
 
 // Status, stored runs, constraint level and reason. A declared point has status 4 and no runs; one that is not has no reason to tell,
 // and holds `ByOperator`.
-#[derive(Drop)]
+#[derive(Clone, Copy)]
 pub struct Point {
     pub status: u8,
     pub small: Run,
@@ -56,7 +59,7 @@ pub struct Point {
 }
 
 // The run lengths of a plant, and whether an interval is in automatic mode.
-#[derive(Drop)]
+#[derive(Clone, Copy)]
 pub struct Rule {
     pub small: Lengths,
     pub large: Lengths,
@@ -109,6 +112,7 @@ impl Point {
     }
 
     // The runs with one mark more, in the interval of this number.
+    #[tactic(auto, unfolding(crate::specs::Points::counted))]
     pub fn count(mut self, mark: Mark, number: u32) -> Point
         ensures { result ≡ counted mark number self }
     {
@@ -170,6 +174,7 @@ impl Point {
         if 1 <= self.small.count { 1 } else { 0 }
     }
 
+    #[tactic(auto, unfolding(crate::specs::Points::graded))]
     fn grade(self, rule: Rule) -> Point
         ensures { result ≡ graded rule self }
     {
@@ -185,6 +190,7 @@ impl Point {
     }
 
     // Whether the mark just counted declares the point.
+    #[tactic(auto, unfolding(crate::specs::Points::declares))]
     fn declared_by(self, rule: Rule, mark: Mark) -> bool
         ensures { result ≡ declares rule mark self.small.count self.large.count }
     {
@@ -227,6 +233,7 @@ impl Point {
     }
 }
 
+#[tactic(auto, unfolding(crate::specs::Points::is_counted))]
 fn is_counted(mark: Mark) -> bool
     ensures { result ≡ is_counted mark }
 {

@@ -1,11 +1,13 @@
 // A step of the program (01, "The program"): the next state, whether the run goes on, and the text to write.
+#![tactic(auto)]
+
 ghost use Rattle.std.specs.Prelude.{◌≡◌, min, length};
 ghost use Rattle.program.specs.Steps.{room_of, size_of, start_of, step_of, taken_from, Steps};
 
 use monitor::Monitor;
 
 // The text is the first `length` bytes of the buffer that was lent.
-#[derive(Drop)]
+#[derive(Clone, Copy)]
 pub struct Turn {
     pub monitor: Monitor,
     pub more: bool,

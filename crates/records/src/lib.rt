@@ -1,12 +1,14 @@
 // One five-minute record of wholesale demand response (02, 2026-04; source 002, section 3.1): its fields, bounds, error and flag, and
 // the bounds of a day's records.
+#![tactic(auto)]
+
 ghost use Rattle.std.specs.Prelude.{◌≡◌, true, ◌+◌, ◌*◌, ◌^◌, ◌≤◌, ◌<◌, nat_abs, length};
 ghost use Rattle.records.specs.Intervals.{interval_at, target_bounded, energy_bounded, interval_bounded};
 ghost use Rattle.records.specs.Intervals.{response_of, error_of, error_flag, interval_flag, is_under, is_over};
 ghost use Rattle.records.specs.Records.{is_whole, records_bounded, day_bounded};
 
 // What is flagged: nothing, underdelivery or overdelivery.
-#[derive(Drop)]
+#[derive(Clone, Copy)]
 pub enum Flag {
     None,
     Under,
@@ -14,7 +16,7 @@ pub enum Flag {
 }
 
 // One record: dispatch target MWB in kW, baseline settlement quantity BSQ and metered energy ME in Wh.
-#[derive(Drop)]
+#[derive(Clone, Copy)]
 pub struct Interval {
     pub target: u32,
     pub baseline: i32,
@@ -83,6 +85,7 @@ impl Interval {
     }
 
     // In W.
+    #[tactic(auto, unfolding(crate::specs::Intervals::error_of))]
     fn error(self) -> i64
         ensures { result ≡ error_of self }
     {

@@ -41,6 +41,7 @@ pub(crate) fn lengths_at(bytes: &[u8], at: usize) -> Lengths
     }
 }
 
+#[tactic(auto, unfolding(crate::specs::Registers::lengths_rise))]
 pub(crate) fn lengths_rise(bytes: &[u8]) -> bool
     requires { 16 ≤ length bytes.now }
     ensures { result ≡ lengths_rise bytes.now }

@@ -1,4 +1,5 @@
 // Reads a register (01, "The register"; 02, 2026-01 and 2026-08): the roster and the visits along its chains, or the number of its refusal.
+#![tactic(auto)]
 
 mod header;
 mod records;
@@ -15,7 +16,7 @@ use chains::visits::Walked;
 use plants::Roster;
 
 // The visits along the chains, or the number in 01.
-#[derive(Drop)]
+#[derive(Clone, Copy)]
 pub enum Answer {
     Accepted(u32),
     Refused(u32),
@@ -23,6 +24,7 @@ pub enum Answer {
 
 impl Answer {
     // The refusal's number, 0 where the register is accepted.
+    #[tactic(auto, unfolding(crate::specs::Registers::answer_number))]
     pub fn number(self) -> u32
         ensures { result ≡ answer_number self }
     {
@@ -33,6 +35,7 @@ impl Answer {
     }
 
     // The visits, 0 where it is refused.
+    #[tactic(auto, unfolding(crate::specs::Registers::answer_visits))]
     pub fn visits(self) -> u32
         ensures { result ≡ answer_visits self }
     {
@@ -44,7 +47,7 @@ impl Answer {
 }
 
 // A refused register gives a roster of zeros.
-#[derive(Drop)]
+#[derive(Clone, Copy)]
 pub struct Registered {
     pub answer: Answer,
     pub roster: Roster,
@@ -58,6 +61,7 @@ pub(crate) fn byte_at(bytes: &[u8], at: usize) -> usize
     plants::wide(bytes[at])
 }
 
+#[tactic(auto, unfolding(crate::specs::Registers::refused_by))]
 fn refused(number: u32) -> Registered
     ensures { result ≡ refused_by number }
 {
@@ -68,6 +72,7 @@ fn refused(number: u32) -> Registered
 }
 
 // What is held of the chains that were walked.
+#[tactic(auto, unfolding(chains::specs::Walks::roster_from))]
 fn laid_out(chains: Chains, walked: Walked) -> Roster
     ensures { result ≡ roster_from chains walked }
 {

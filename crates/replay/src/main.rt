@@ -4,12 +4,14 @@
 //
 // What it prints of the bytes that it read is proved (crate `script`). Reading, writing and going on are left: no contract can say
 // what a file holds. A file that cannot be opened counts as empty.
+#![tactic(auto)]
+
 ghost use Rattle.std.specs.Prelude.{◌≤◌, ◌≡◌, length};
 
 use monitor::Monitor;
 
 // Whether the run goes on, the next state, and the bytes that the call took.
-#[derive(Drop)]
+#[derive(Clone, Copy)]
 struct Run {
     more: bool,
     monitor: Monitor,

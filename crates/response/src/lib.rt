@@ -1,5 +1,7 @@
 // A day of wholesale demand response (02, 2026-04; source 002, section 3): its sums, its flag and its counts of flagged intervals, or
 // the number of its refusal. It keeps nothing from one day to the next.
+#![tactic(auto)]
+
 mod totals;
 
 ghost use Rattle.std.specs.Prelude.{◌≡◌, true, ◌^◌, ◌<◌, nat_abs};
@@ -13,7 +15,7 @@ use records::Flag;
 const RECORDS: usize = 3456;
 
 // The result: D in Wh and T in kW over the intervals with a target, the day's flag, and how many intervals are flagged.
-#[derive(Drop)]
+#[derive(Clone, Copy)]
 pub struct Day {
     pub response: i64,
     pub target: u32,
@@ -23,7 +25,7 @@ pub struct Day {
 }
 
 // The day, or the number of its refusal in 02.
-#[derive(Drop)]
+#[derive(Clone, Copy)]
 pub enum Answer {
     Assessed(Day),
     Refused(u32),
@@ -31,6 +33,7 @@ pub enum Answer {
 
 impl Answer {
     // The refusal's number, 0 where the day is assessed.
+    #[tactic(auto, unfolding(crate::specs::Answers::answer_number))]
     pub fn number(self) -> u32
         ensures { result ≡ answer_number self }
     {
@@ -60,6 +63,7 @@ fn day_flag(response: i64, target: u32) -> Flag
 }
 
 // A day that is not refused.
+#[tactic(auto, unfolding(crate::specs::Days::day_of, crate::specs::Totals::totals_of))]
 fn assessed(earlier: u32, records: &[u8]) -> Day
     requires records_value { is_whole records.now ≡ true }
     requires records_value_2 { day_bounded earlier records.now ≡ true }

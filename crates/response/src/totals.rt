@@ -7,7 +7,7 @@ ghost use Rattle.response.specs.Totals.{SmallTotals, counted, add_dispatched, ad
 use records::Interval;
 
 // Of the intervals so far: D and T, and how many are flagged.
-#[derive(Drop)]
+#[derive(Clone, Copy)]
 pub(crate) struct Totals {
     pub response: i64,
     pub target: u32,
@@ -23,6 +23,7 @@ fn counted(count: u32, more: bool) -> u32
 }
 
 impl Totals {
+    #[tactic(auto, unfolding(crate::specs::Totals::add_dispatched))]
     fn plus_dispatched(self, before: u32, v: Interval) -> Totals
         requires small_totals { SmallTotals self }
         requires v_value { interval_bounded v ≡ true }
@@ -38,6 +39,7 @@ impl Totals {
     }
 
     // An interval with no target is in neither sum and is not flagged.
+    #[tactic(auto, unfolding(crate::specs::Totals::add_interval))]
     fn plus(self, before: u32, v: Interval) -> Totals
         requires small_totals { SmallTotals self }
         requires v_value { interval_bounded v ≡ true }

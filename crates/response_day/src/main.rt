@@ -3,6 +3,7 @@
 //
 // What it prints of what it read is proved (crate `response_text`). Reading and writing are left: no contract can say what a file
 // holds. A file that cannot be opened, or not read, counts as empty, which is no day.
+#![tactic(auto)]
 
 // A day has 3,460 bytes, so with one byte more a longer file is seen to be too long.
 fn run(out: &mut [u8; 64]) {

@@ -1,4 +1,6 @@
 // The line that the program of a day of wholesale demand response prints (02, 2026-04).
+#![tactic(auto)]
+
 ghost use Rattle.std.specs.Prelude.{◌≡◌, ◌≤◌, length};
 ghost use Rattle.text.specs.Lines.{day_line_of};
 ghost use Rattle.text.specs.Puts.{Put};
@@ -22,6 +24,7 @@ fn put_flagged(out: &mut [u8; 64], day: Day, flag: &[u8]) -> usize
     text::put_bytes(out, end, b"\n")
 }
 
+#[tactic(auto, unfolding(crate::specs::Texts::day_text))]
 fn put_day(out: &mut [u8; 64], day: Day) -> usize
     ensures { Put out.old 0 (day_text day) result out.new }
 {
@@ -33,6 +36,7 @@ fn put_day(out: &mut [u8; 64], day: Day) -> usize
     }
 }
 
+#[tactic(auto, unfolding(crate::specs::Texts::answer_text))]
 fn put_answer(out: &mut [u8; 64], answer: Answer) -> usize
     ensures { Put out.old 0 (answer_text answer) result out.new }
 {
@@ -43,6 +47,7 @@ fn put_answer(out: &mut [u8; 64], answer: Answer) -> usize
 }
 
 // What is printed of a file's bytes, put at the start of `out`; the length is returned.
+#[tactic(auto, unfolding(crate::specs::Texts::file_text))]
 pub fn put_file(out: &mut [u8; 64], bytes: &[u8]) -> usize
     ensures { Put out.old 0 (file_text bytes.now) result out.new }
 {

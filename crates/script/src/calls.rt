@@ -194,6 +194,7 @@ pub(crate) fn reason(m: Monitor, point: u32, out: &mut [u8; 8192]) -> Turn
 }
 
 // A flag as the text has it.
+#[tactic(auto, unfolding(crate::specs::Texts::bit_of))]
 fn bit(flag: bool) -> u8
     ensures { result ≡ bit_of flag }
 {

@@ -1,4 +1,6 @@
 // A list of calls in a file, step by step: a call is read, made and answered in text. The format stands in `specs/Items.antt`.
+#![tactic(auto)]
+
 mod calls;
 
 ghost use Rattle.program.specs.Steps.{Steps};

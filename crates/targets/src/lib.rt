@@ -1,4 +1,6 @@
 // What is kept with an aggregate between intervals: its own target and regulation (02, 2026-07).
+#![tactic(auto)]
+
 ghost use Rattle.std.specs.Prelude.{◌≡◌};
 ghost use Rattle.trace.specs.Sweeps.{sweep};
 ghost use Rattle.plants.specs.Rosters.{held};
@@ -11,7 +13,7 @@ use plants::Roster;
 
 // Over those members that have a kept line: the signed sum of MWB, and the sums of FCR and FCL. `complete` is whether every member has
 // one.
-#[derive(Drop)]
+#[derive(Clone, Copy)]
 pub struct Target {
     pub target: i32,
     pub raise: u32,
@@ -71,6 +73,7 @@ impl Target {
 
 // What the kept lines make of each aggregate, along its stretch of the list: unlike the pass that gives the mark, past a member whose line was
 // unreadable. Both loops stand here, since lines handed on by value would be copied for each aggregate.
+#[tactic(auto, unfolding(crate::specs::Targets::member_at))]
 pub fn targets_of(roster: Roster, kept: [Kept; 64], before: [Target; 16]) -> [Target; 16]
     requires { Known roster kept }
     ensures { result ≡ sweep (target_of (held roster) (kept_in kept)) roster.aggregates before }

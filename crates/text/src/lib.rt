@@ -1,5 +1,7 @@
 // Text in ASCII, put into a buffer that the caller lends, from a place on. Each function returns the next place. None asks anything of
 // its caller: where fewer bytes are left than the longest text of its kind takes, the buffer keeps its bytes and the place stays.
+#![tactic(auto)]
+
 mod pieces;
 
 ghost use Rattle.std.specs.Prelude.{◌≡◌, ◌+◌, ◌*◌, leb, length};

@@ -1,4 +1,6 @@
 // Reads units and aggregates as `tools/trial_marks.py` writes them and prints what `marks` makes of each.
+#![tactic(auto)]
+
 ghost use Rattle.std.specs.Prelude.{◌+◌, ◌*◌, ◌<◌, ◌≤◌, length};
 ghost use Rattle.marks.specs.Bounds.{SmallSight};
 ghost use Rattle.aggregates.specs.Sizes.{SmallSums};

@@ -1,4 +1,6 @@
 // Reads registers and units' lines as `tools/trial_passes.py` writes them and prints what a pass over each aggregate's members gives.
+#![tactic(auto)]
+
 ghost use Rattle.std.specs.Prelude.{◌+◌, ◌*◌, ◌<◌, ◌≤◌, ◌≡◌, true, length};
 ghost use Rattle.plants.specs.Rosters.{roster_sound};
 ghost use Rattle.aggregates.specs.Views.{SmallView};
@@ -57,6 +59,7 @@ fn picked(picks: &[u8], i: usize, given: usize) -> usize
     size(picks[i % picks.len()]) % given
 }
 
+#[tactic(auto, unfolding(passes::specs::Seen::seen_at))]
 fn views(roster: Roster, samples: &[u8], given: usize, picks: &[u8]) -> [View; 64]
     requires roster_value { roster_sound roster ≡ true }
     requires given_in_bounds { (81 * given ≤ length samples.now) × (1 ≤ given) × (given < 256) × (1 ≤ length picks.now) }

@@ -1,4 +1,6 @@
 // Reads lines as `tools/trial_telemetry.py` writes them and prints what `telemetry` makes of each.
+#![tactic(auto)]
+
 ghost use Rattle.std.specs.Prelude.{◌<◌, length};
 
 use telemetry::{Fields, Line, Reading};

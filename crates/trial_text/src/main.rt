@@ -1,4 +1,5 @@
 // Prints numbers through `text`, and what is left of short buffers. Every expected line is worked out by hand.
+#![tactic(auto)]
 
 fn print_line(out: &mut [u8], next: usize) {
     let end = text::put_bytes(out, next, b"\n");

@@ -1,5 +1,7 @@
 // Rates of change and triggers, which units and aggregates share (01, "Triggers and errors").
 // Power is in kW, ramp rates in kW per minute, triggers in hundredths of a kW.
+#![tactic(auto)]
+
 ghost use Rattle.std.specs.Prelude.{◌≡◌, ◌*◌, ◌^◌, ◌≤◌, min, max, nat_abs};
 ghost use Rattle.floats.specs.Kilowatts.{kilowatts_of};
 ghost use Rattle.triggers.specs.Triggers.{direction_of, opposite, rate_of, capability_of, add_capability, trigger_of};
@@ -10,7 +12,7 @@ use telemetry::Readings;
 // ---- rate of change
 
 // Which way the power has to go to reach the target.
-#[derive(Drop)]
+#[derive(Clone, Copy)]
 pub enum Direction {
     Up,
     Down,
@@ -18,7 +20,7 @@ pub enum Direction {
 }
 
 // Availability, and the rates of change up, down and at equality: a unit's own, or sums over units.
-#[derive(Drop)]
+#[derive(Clone, Copy)]
 pub struct Capability {
     pub availability: u64,
     pub up: u64,
@@ -38,6 +40,7 @@ pub fn greater(a: u64, b: u64) -> u64
     if a <= b { b } else { a }
 }
 
+#[tactic(auto, unfolding(crate::specs::Triggers::direction_of))]
 pub fn direction_of(target: i64, power: i64) -> Direction
     ensures { result ≡ direction_of target power }
 {
@@ -52,6 +55,7 @@ pub fn direction_of(target: i64, power: i64) -> Direction
 
 impl Direction {
     // A load's part in an aggregate goes the other way.
+    #[tactic(auto, unfolding(crate::specs::Triggers::opposite))]
     pub fn turned(self) -> Direction
         ensures { result ≡ opposite self }
     {
@@ -64,6 +68,7 @@ impl Direction {
 }
 
 impl Capability {
+    #[tactic(auto, unfolding(crate::specs::Triggers::rate_of))]
     pub fn rate(self, direction: Direction) -> u64
         ensures { result ≡ rate_of direction self }
     {
@@ -75,6 +80,7 @@ impl Capability {
     }
 
     // The sums with one unit more, where it counts.
+    #[tactic(auto, unfolding(crate::specs::Triggers::add_capability))]
     pub fn plus(self, counts: bool, unit: Capability) -> Capability
         requires { SmallCapability (2 ^ 60) self × SmallCapability (2 ^ 60) unit }
         ensures { result ≡ add_capability counts self unit }
@@ -105,6 +111,7 @@ fn allowed_rate(scada: f32, bid: u32) -> u64
 }
 
 // A unit's own, from the readings, the availability and the bid rates of its line.
+#[tactic(auto, unfolding(crate::specs::Triggers::capability_of))]
 pub fn capability_of(
     readings: Readings,
     availability: u32,
@@ -126,6 +133,7 @@ pub fn capability_of(
 // ---- triggers
 
 // A trigger: at least 6 MW, else the lesser of a share of the availability, in per cent, and some hundredths of a minute's ramping.
+#[tactic(auto, unfolding(crate::specs::Triggers::trigger_of))]
 pub fn trigger_of(share: u64, ramping: u64, availability: u64, rate: u64) -> u64
     requires { (share ≤ 5) × (ramping ≤ 400) × (availability ≤ 130000000) × (rate ≤ 130000000) }
     ensures { result ≡ trigger_of share ramping availability rate }
