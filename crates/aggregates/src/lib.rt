@@ -281,6 +281,7 @@ impl Sums {
     }
 
     // One member more. Of an unreadable line nothing is added.
+    #[tactic(auto, unfolding(crate::specs::Views::add_view))]
     pub fn plus(self, member: View) -> Sums
         requires { SmallSums (2 ^ 59) self × SmallView member }
         ensures { result ≡ add_view self member }

@@ -43,6 +43,7 @@ fn listed(members: [u8; 64], at: u32, i: usize) -> [u8; 64]
     list
 }
 
+#[tactic(auto, unfolding(crate::specs::Walks::step_to))]
 fn step_to(walk: Walk, i: usize) -> Walk
     requires { (i < 64) × (walk.steps < 2000) }
     ensures { result ≡ step_to walk i }

@@ -1,31 +1,48 @@
 // Files, for the programs. What a file holds is not proved: no contract can say it.
 #![tactic(auto)]
 
-ghost use Rattle.std.specs.Prelude.{◌≡◌, ◌≤◌, length};
-ghost use Rattle.io.specs.Counts.{IsPrefixLen};
+ghost use Rattle.std.specs.Prelude.{◌≡◌, ◌≤◌, length, take};
+
+use std::fs;
+use std::io::Read;
+use std::rt::Files;
+
+// Reads until `bytes` is full, the input ends or a read fails, and returns how many bytes it put at the start.
+pub fn read_full<R: Read>(reader: &mut R, bytes: &mut [u8]) -> usize
+    ensures in_bounds { result ≤ length bytes.new }
+    ensures prefix { result ≡ length (take result bytes.new) }
+{
+    let mut done = 0;
+    while done < bytes.len() {
+        match reader.read(&mut bytes[done..]) {
+            Ok(0) => return done,
+            Ok(count) => done += count,
+            Err(_) => return done,
+        }
+    }
+    done
+}
 
 // The file's first bytes, as many as it has and `bytes` has room for. A file that cannot be opened, or not read, counts as empty.
-pub fn read(path: &[u8], bytes: &mut [u8]) -> usize
-    ensures { IsPrefixLen result bytes.new }
+pub fn read<R: Files>(rt: &R, path: &str, bytes: &mut [u8]) -> usize
+    ensures in_bounds { result ≤ length bytes.new }
+    ensures prefix { result ≡ length (take result bytes.new) }
 {
-    let fd = os::open_read(path);
-    if fd < 0 {
-        return 0;
+    match fs::open(rt, path) {
+        Ok(mut file) => read_full(&mut file, bytes),
+        Err(_) => 0,
     }
-    let count = io::read_full(fd, bytes);
-    libc::close(fd);
-    count
 }
 
 // The bytes of the next call of a list: the first 8, and as many as they ask for.
-pub fn read_call(fd: i32, call: &mut [u8]) -> usize
+pub fn read_call<R: Read>(reader: &mut R, call: &mut [u8]) -> usize
     requires { length call.old ≡ 8200 }
     ensures { result ≤ 8200 }
 {
-    let head = io::read_full(fd, &mut call[0..8]);
+    let head = read_full(reader, &mut call[0..8]);
     let size = frames::wanted(&call[0..head]);
     if size == 0 {
         return head;
     }
-    head + io::read_full(fd, &mut call[8..8 + size])
+    head + read_full(reader, &mut call[8..8 + size])
 }

@@ -162,7 +162,6 @@ pub fn enter(ledger: Ledger, date: Date, day: Day) -> Stepped
 
 // ---- reinstatement
 
-#[tactic(auto, unfolding(crate::specs::Ledgers::reinstated))]
 pub fn reinstate(ledger: Ledger) -> Stepped
     ensures { Answered (reinstate_of ledger) (reinstate_refusal ledger) result }
 {

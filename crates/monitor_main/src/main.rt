@@ -7,10 +7,13 @@
 ghost use Rattle.std.specs.Prelude.{length};
 
 use monitor::Monitor;
+use std::fs;
+use std::io::{Eprint, Print, Read};
+use std::rt::Files;
 
 // Writes a step's text, the first bytes of `out`, in one write.
-fn write(out: &[u8], length: usize) -> bool {
-    output::write(b"monitor_main: standard output", out, length)
+fn write<R: Print + Eprint>(rt: &R, out: &[u8], length: usize) -> bool {
+    output::write(rt, "monitor_main: standard output", out, length)
 }
 
 // ---- intervals.bin
@@ -23,10 +26,16 @@ struct Run {
 }
 
 // Reads one buffer and writes its lines, before the next is read.
-fn take_one(fd: i32, m: Monitor, buffer: &mut [u8], out: &mut [u8; 8192]) -> Run {
-    let got = io::read_full(fd, buffer);
+fn take_one<R: Print + Eprint, F: Read>(
+    rt: &R,
+    file: &mut F,
+    m: Monitor,
+    buffer: &mut [u8],
+    out: &mut [u8; 8192],
+) -> Run {
+    let got = input::read_full(file, buffer);
     let turn = program::step(m, &buffer[..got], out);
-    let written = write(out, turn.length);
+    let written = write(rt, out, turn.length);
     let monitor = turn.monitor;
     Run {
         more: turn.more & written,
@@ -36,43 +45,49 @@ fn take_one(fd: i32, m: Monitor, buffer: &mut [u8], out: &mut [u8; 8192]) -> Run
 
 // A proved loop has to end, and nothing says that a file does. Accepted numbers rise and are below 2^32, so turn 2^32 + 1
 // finds the end of the file or a refusal.
-fn take_all(fd: i32, m: Monitor, buffer: &mut [u8], out: &mut [u8; 8192]) {
+fn take_all<R: Print + Eprint, F: Read>(
+    rt: &R,
+    file: &mut F,
+    m: Monitor,
+    buffer: &mut [u8],
+    out: &mut [u8; 8192],
+) {
     let mut now = Run {
         more: true,
         monitor: m,
     };
     let mut turns: u64 = 4294967297;
     while turns > 0 && now.more {
-        now = take_one(fd, now.monitor, buffer, out);
+        now = take_one(rt, file, now.monitor, buffer, out);
         turns -= 1;
     }
 }
 
-fn read_intervals(m: Monitor, out: &mut [u8; 8192]) {
-    let fd = os::open_read(b"intervals.bin");
-    if fd < 0 {
-        return;
+fn read_intervals<R: Files + Print + Eprint>(rt: &R, m: Monitor, out: &mut [u8; 8192]) {
+    match fs::open(rt, "intervals.bin") {
+        Ok(mut file) => {
+            let size = program::interval_size(m);
+            let mut buffer = [0u8; 4096];
+            take_all(rt, &mut file, m, &mut buffer[0..size], out);
+        }
+        Err(_) => {}
     }
-    let size = program::interval_size(m);
-    let mut buffer = io::buffer();
-    take_all(fd, m, &mut buffer[0..size], out);
-    libc::close(fd);
 }
 
 // ---- register.bin
 
 // The longest register has 336 bytes, so with one byte more a longer file is seen to be too long.
-fn run_files(out: &mut [u8; 8192]) {
+fn run_files<R: Files + Print + Eprint>(rt: &R, out: &mut [u8; 8192]) {
     let mut bytes = [0u8; 337];
-    let count = input::read(b"register.bin", &mut bytes);
+    let count = input::read(rt, "register.bin", &mut bytes);
     let turn = program::start(&bytes[..count], out);
-    let written = write(out, turn.length);
+    let written = write(rt, out, turn.length);
     if turn.more & written {
-        read_intervals(turn.monitor, out);
+        read_intervals(rt, turn.monitor, out);
     }
 }
 
-fn main() {
+fn main(rt: HostRuntime) {
     let mut out = program::room();
-    run_files(&mut out);
+    run_files(&rt, &mut out);
 }

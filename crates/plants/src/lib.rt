@@ -125,6 +125,7 @@ fn stretches_in(starts: [u8; 16], counts: [u8; 16], aggregates: usize) -> bool
 }
 
 // Whether the roster can be gone over: a call can be handed one that no register gave.
+#[tactic(auto, unfolding(crate::specs::Rosters::roster_sound))]
 pub fn roster_sound(roster: Roster) -> bool
     ensures { result ≡ roster_sound roster }
 {

@@ -81,6 +81,7 @@ fn one_more(run: u8) -> u8
 
 impl Run {
     // The run with the mark of the interval of this number.
+    #[tactic(auto, unfolding(crate::specs::Points::longer))]
     fn count_one(self, number: u32) -> Run
         ensures { result ≡ stored_run (longer number self) }
     {
@@ -160,6 +161,7 @@ impl Point {
         (small <= self.small.count) | (large <= self.large.count)
     }
 
+    #[tactic(auto, unfolding(crate::specs::Points::status_of))]
     fn status_by(self, rule: Rule) -> u8
         ensures { result ≡ status_of rule self.small.count self.large.count }
     {
@@ -201,6 +203,7 @@ impl Point {
     }
 
     // Why the mark just counted declares the point: large goes before small.
+    #[tactic(auto, unfolding(crate::specs::Points::reason_of))]
     fn reason_by(self, rule: Rule, number: u32) -> Reason
         ensures { result ≡ reason_of rule number self.small self.large }
     {
@@ -211,6 +214,7 @@ impl Point {
         Reason::BySmallRun(self.small.span_to(number))
     }
 
+    #[tactic(auto, unfolding(crate::specs::Points::settled))]
     fn settle(self, rule: Rule, number: u32, a: Assessment) -> Point
         ensures { result ≡ settled rule number a self }
     {
@@ -222,6 +226,7 @@ impl Point {
     }
 
     // The record after an accepted interval of this number: a declared point stays as it is.
+    #[tactic(auto, unfolding(crate::specs::Points::marked_by))]
     pub fn mark(self, rule: Rule, number: u32, a: Assessment) -> Point
         ensures { result ≡ marked_by rule number a self }
     {

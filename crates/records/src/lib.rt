@@ -26,6 +26,7 @@ pub struct Interval {
 // How many a day has.
 pub const INTERVALS: usize = 288;
 
+#[tactic(auto, unfolding(crate::specs::Intervals::interval_at))]
 pub fn interval_at(records: &[u8], i: usize) -> Interval
     requires { 12 * i + 12 ≤ length records.now }
     ensures { result ≡ interval_at records.now i }
@@ -54,6 +55,7 @@ fn energy_bounded(energy: i32) -> bool
 
 // ---- error and flag
 
+#[tactic(auto, unfolding(crate::specs::Intervals::error_flag))]
 fn error_flag(error: i64) -> Flag
     ensures { result ≡ error_flag error }
 {
@@ -67,6 +69,7 @@ fn error_flag(error: i64) -> Flag
 }
 
 impl Interval {
+    #[tactic(auto, unfolding(crate::specs::Intervals::interval_bounded))]
     fn bounded(self) -> bool
         ensures { result ≡ interval_bounded self }
     {
@@ -94,6 +97,7 @@ impl Interval {
     }
 
     // The flag, after an interval with this target. The first interval of a dispatch is left out: the unit is still ramping.
+    #[tactic(auto, unfolding(crate::specs::Intervals::interval_flag))]
     pub fn flag(self, before: u32) -> Flag
         ensures { result ≡ interval_flag before self }
     {

@@ -9,6 +9,9 @@
 ghost use Rattle.std.specs.Prelude.{◌≤◌, ◌≡◌, length};
 
 use monitor::Monitor;
+use std::fs;
+use std::io::{Eprint, Print, Read};
+use std::rt::Files;
 
 // Whether the run goes on, the next state, and the bytes that the call took.
 #[derive(Clone, Copy)]
@@ -19,13 +22,20 @@ struct Run {
 }
 
 // Reads one call, whose tag is at this byte, and writes its answer, before the next is read.
-fn take_one(fd: i32, m: Monitor, at: u64, call: &mut [u8], out: &mut [u8; 8192]) -> Run
+fn take_one<R: Print + Eprint, F: Read>(
+    rt: &R,
+    file: &mut F,
+    m: Monitor,
+    at: u64,
+    call: &mut [u8],
+    out: &mut [u8; 8192],
+) -> Run
     requires { length call.old ≡ 8200 }
     ensures { result.taken ≤ 8200 }
 {
-    let taken = input::read_call(fd, call);
+    let taken = input::read_call(file, call);
     let turn = script::step(m, at, &call[0..taken], out);
-    let written = output::write(b"replay: standard output", out, turn.length);
+    let written = output::write(rt, "replay: standard output", out, turn.length);
     let monitor = turn.monitor;
     Run {
         more: turn.more & written,
@@ -36,14 +46,19 @@ fn take_one(fd: i32, m: Monitor, at: u64, call: &mut [u8], out: &mut [u8; 8192])
 
 // Call after call, until the list ends. A proved loop has to end, and nothing says that a file does, so the calls are
 // counted down, from a million million, which no run uses up.
-fn take_all(fd: i32, call: &mut [u8], out: &mut [u8; 8192])
+fn take_all<R: Print + Eprint, F: Read>(
+    rt: &R,
+    file: &mut F,
+    call: &mut [u8],
+    out: &mut [u8; 8192],
+)
     requires { length call.old ≡ 8200 }
 {
     let mut m = monitor::new_monitor();
     let mut at: u64 = 0;
     let mut calls: u64 = 1000000000000;
     while 0 < calls {
-        let next = take_one(fd, m, at, call, out);
+        let next = take_one(rt, file, m, at, call, out);
         if !next.more {
             return;
         }
@@ -53,13 +68,17 @@ fn take_all(fd: i32, call: &mut [u8], out: &mut [u8; 8192])
     }
 }
 
-fn main() {
-    let fd = os::open_read(b"calls.bin");
-    if fd < 0 {
-        return;
+fn run_calls<R: Files + Print + Eprint>(rt: &R) {
+    match fs::open(rt, "calls.bin") {
+        Ok(mut file) => {
+            let mut call = frames::room();
+            let mut out = program::room();
+            take_all(rt, &mut file, &mut call, &mut out);
+        }
+        Err(_) => {}
     }
-    let mut call = frames::room();
-    let mut out = program::room();
-    take_all(fd, &mut call, &mut out);
-    libc::close(fd);
+}
+
+fn main(rt: HostRuntime) {
+    run_calls(&rt);
 }

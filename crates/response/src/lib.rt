@@ -45,6 +45,7 @@ impl Answer {
 }
 
 // 24 × D against 1000 × T and 3000 × T: the ratio of D to T / 12, in MWh both, against 50 % and 150 %.
+#[tactic(auto, unfolding(crate::specs::Days::day_flag))]
 fn day_flag(response: i64, target: u32) -> Flag
     requires { nat_abs response < 2 ^ 58 }
     ensures { result ≡ day_flag response target }

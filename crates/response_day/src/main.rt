@@ -5,15 +5,18 @@
 // holds. A file that cannot be opened, or not read, counts as empty, which is no day.
 #![tactic(auto)]
 
+use std::io::{Eprint, Print};
+use std::rt::Files;
+
 // A day has 3,460 bytes, so with one byte more a longer file is seen to be too long.
-fn run(out: &mut [u8; 64]) {
+fn run<R: Files + Print + Eprint>(rt: &R, out: &mut [u8; 64]) {
     let mut bytes = [0u8; 3461];
-    let count = input::read(b"day.bin", &mut bytes);
+    let count = input::read(rt, "day.bin", &mut bytes);
     let length = response_text::put_file(out, &bytes[..count]);
-    output::write(b"response_day: standard output", out, length);
+    output::write(rt, "response_day: standard output", out, length);
 }
 
-fn main() {
+fn main(rt: HostRuntime) {
     let mut out = response_text::room();
-    run(&mut out);
+    run(&rt, &mut out);
 }

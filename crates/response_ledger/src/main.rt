@@ -9,6 +9,9 @@
 ghost use Rattle.std.specs.Prelude.{◌≤◌, ◌≡◌, length};
 
 use ledger::Ledger;
+use std::fs;
+use std::io::{Eprint, Print, Read};
+use std::rt::Files;
 
 // Whether the run goes on, the next ledger, and the bytes that the call took.
 #[derive(Clone, Copy)]
@@ -19,13 +22,20 @@ struct Run {
 }
 
 // Reads one call, whose tag is at this byte, and writes its answer, before the next is read.
-fn take_one(fd: i32, l: Ledger, at: u64, call: &mut [u8], out: &mut [u8; 128]) -> Run
+fn take_one<R: Print + Eprint, F: Read>(
+    rt: &R,
+    file: &mut F,
+    l: Ledger,
+    at: u64,
+    call: &mut [u8],
+    out: &mut [u8; 128],
+) -> Run
     requires { length call.old ≡ 8200 }
     ensures { result.taken ≤ 8200 }
 {
-    let taken = input::read_call(fd, call);
+    let taken = input::read_call(file, call);
     let turn = ledger_script::step(l, at, &call[0..taken], out);
-    let written = output::write(b"response_ledger: standard output", out, turn.length);
+    let written = output::write(rt, "response_ledger: standard output", out, turn.length);
     let ledger = turn.ledger;
     Run {
         more: turn.more & written,
@@ -36,14 +46,19 @@ fn take_one(fd: i32, l: Ledger, at: u64, call: &mut [u8], out: &mut [u8; 128]) -
 
 // Call after call, until the list ends. A proved loop has to end, and nothing says that a file does, so the calls are
 // counted down, from a million million, which no run uses up.
-fn take_all(fd: i32, call: &mut [u8], out: &mut [u8; 128])
+fn take_all<R: Print + Eprint, F: Read>(
+    rt: &R,
+    file: &mut F,
+    call: &mut [u8],
+    out: &mut [u8; 128],
+)
     requires { length call.old ≡ 8200 }
 {
     let mut l = ledger::new_ledger();
     let mut at: u64 = 0;
     let mut calls: u64 = 1000000000000;
     while 0 < calls {
-        let next = take_one(fd, l, at, call, out);
+        let next = take_one(rt, file, l, at, call, out);
         if !next.more {
             return;
         }
@@ -53,13 +68,17 @@ fn take_all(fd: i32, call: &mut [u8], out: &mut [u8; 128])
     }
 }
 
-fn main() {
-    let fd = os::open_read(b"ledger.bin");
-    if fd < 0 {
-        return;
+fn run_calls<R: Files + Print + Eprint>(rt: &R) {
+    match fs::open(rt, "ledger.bin") {
+        Ok(mut file) => {
+            let mut call = frames::room();
+            let mut out = ledger_script::room();
+            take_all(rt, &mut file, &mut call, &mut out);
+        }
+        Err(_) => {}
     }
-    let mut call = frames::room();
-    let mut out = ledger_script::room();
-    take_all(fd, &mut call, &mut out);
-    libc::close(fd);
+}
+
+fn main(rt: HostRuntime) {
+    run_calls(&rt);
 }

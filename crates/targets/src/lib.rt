@@ -73,7 +73,6 @@ impl Target {
 
 // What the kept lines make of each aggregate, along its stretch of the list: unlike the pass that gives the mark, past a member whose line was
 // unreadable. Both loops stand here, since lines handed on by value would be copied for each aggregate.
-#[tactic(auto, unfolding(crate::specs::Targets::member_at))]
 pub fn targets_of(roster: Roster, kept: [Kept; 64], before: [Target; 16]) -> [Target; 16]
     requires { Known roster kept }
     ensures { result ≡ sweep (target_of (held roster) (kept_in kept)) roster.aggregates before }

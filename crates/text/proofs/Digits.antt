@@ -55,7 +55,8 @@ decimal-apart m n k l e = sym (number-back m k) ∙ ap number_in e ∙ number-ba
 digits-by : (limit n : ℕ) {digit : ℕ} → Memᴰ digit (decimal_by limit n) → (48 ≤ digit) × (digit ≤ 57)
 unfolding decimal_by
 digits-by zero n m = absurd (mathlib.Core.List.Memᴰ.not-nil m)
-digits-by (suc limit) n {digit} m = go (ltb n 10) (mathlib.Core.List.Memᴰ.append_cases (cond (ltb n 10) [] (decimal_by limit (n / 10))) m) (digits-by limit (n / 10))
+digits-by (suc limit) n {digit} m =
+    go (ltb n 10) (mathlib.Core.List.Memᴰ.append_cases (cond (ltb n 10) [] (decimal_by limit (n / 10))) m) (digits-by limit (n / 10))
   where
     go : (b : Bool) → Memᴰ digit (cond b [] (decimal_by limit (n / 10))) ⊎ Memᴰ digit ((48 + n % 10) ∷ [])
         → (Memᴰ digit (decimal_by limit (n / 10)) → (48 ≤ digit) × (digit ≤ 57)) → (48 ≤ digit) × (digit ≤ 57)

@@ -1,13 +1,14 @@
 -- Text put piece by piece: room for the whole is room for each piece in its turn, and what the pieces leave is what the whole
 -- leaves. Assumes nothing.
-use mathlib.Core.Path.{◌≡◌, refl, sym, ap, ◌∙◌}
-use mathlib.Core.List.{List, [], ◌∷◌, ◌++◌, append-nil}
+use mathlib.Core.Path.{◌≡◌, refl, sym, ◌∙◌}
+use mathlib.Core.List.{List, [], ◌∷◌, ◌++◌}
 use Prim.Native.Nat.{ℕ, ◌+◌, ◌-◌, ◌/◌, ◌%◌, ◌^◌, ◌≤◌, ◌<◌}
 use native.Mathlib.Nat.{add-zero}
 use native.Mathlib.Numerals.{add-one}
 use native.Mathlib.Omega.{arith}
-use lib.ListN.{take-append-drop, length, set, take, drop, length-append, length-drop}
-use lib.Seq.{set_split, take-length, drop-drop, drop-length, length-take-le}
+use lib.ListN.{take-append-drop, length, set, length-append}
+use borrow.Rule.Slice.PartMut.{put_mid}
+use lib.Seq.{set_split, drop-drop}
 use Rattle.wire.specs.Fields.{put_at}
 use Rattle.wire.proofs.Laws.{length-put, put-put}
 use Rattle.text.specs.Numbers.{decimal_of}
@@ -51,16 +52,12 @@ module _ {out : List ℕ} {at : ℕ} where
 
 -- ---- bytes copied into a part that was lent
 
-pub copied : (out src part : List ℕ) (at : ℕ) → Room out at src
-    → part ≡ take (length src) src ++ drop (length src) (take (at + length src - at) (drop at out))
-    → Put out at src (at + length src) (take at out ++ (part ++ drop (at + length src - at) (drop at out)))
+pub copied : (out src part : List ℕ) (at : ℕ) → Room out at src → part ≡ src
+    → Put out at src (at + length src) (put_mid at (at + length src - at) out part)
 unfolding put_at
 copied out src part at room e =
     let size : at + length src - at ≡ length src = omega arith in
-    let lent = take (length src) (drop at out) in
-    let whole : length lent ≡ length src = length-take-le (length src) (drop at out) (rw length-drop (omega (arith, room.fits))) in
-    let none : drop (length src) lent ≡ [] = ap (λ (k : ℕ). drop k lent) (sym whole) ∙ drop-length lent in
-    record { place = refl; bytes = rw (e, size, none, take-length src, append-nil src, drop-drop (length src) at out) }
+    record { place = refl; bytes = rw (e, size, drop-drop (length src) at out) }
 
 -- ---- the digits of a number
 

@@ -21,7 +21,7 @@ pub(crate) fn put_bytes(out: &mut [u8], at: usize, bytes: &[u8]) -> usize
     ensures { Put out.old at bytes.now result out.new }
 {
     let next = at + bytes.len();
-    bytes::copy(bytes, &mut out[at..next]);
+    out[at..next].copy_from_slice(bytes);
     next
 }
 

@@ -1,0 +1,15 @@
+use Rattle.std.proofs.Common.{rules}
+use Rattle.register.proofs.Readings.{walked-6, walked-7, walked-30, walked-accepted}
+use Rattle.register.proofs.chained_from.Goals as goal
+
+pub returns-then-walk : goal.returns-then-walk
+returns-then-walk c = search (rules, walked-6)
+
+pub returns-then-not-ends : goal.returns-then-not-ends
+returns-then-not-ends c = search (rules, walked-7)
+
+pub returns-then-not-scheduled : goal.returns-then-not-scheduled
+returns-then-not-scheduled c = search (rules, walked-30)
+
+pub returns : goal.returns
+returns c = search (rules, walked-accepted)
