@@ -47,7 +47,7 @@ fn is_named(units: usize, aggregates: usize, point: u32) -> bool
 }
 
 // 20, then 10.
-#[tactic(auto, unfolding(intervals::specs::Monitors::plant_in, crate::specs::Operators::locate_of))]
+#[tactic(auto, unfolding(crate::specs::Operators::locate_of))]
 fn locate(m: Monitor, point: u32) -> Verdict
     ensures { result ≡ locate_of m point }
 {
@@ -115,7 +115,6 @@ fn store(m: Monitor, i: usize, q: Point) -> Monitor
     next
 }
 
-#[tactic(auto, unfolding(crate::specs::Operators::permit, intervals::specs::Monitors::plant_in, crate::specs::Operators::change))]
 fn declare_at(m: Monitor, i: usize, level: i32) -> Stepped
     requires { (i < 80) × (m.roster.units ≤ 64) }
     ensures { result ≡ declare_at m i level }
@@ -134,7 +133,6 @@ fn declare_at(m: Monitor, i: usize, level: i32) -> Stepped
     }
 }
 
-#[tactic(auto, unfolding(crate::specs::Operators::permit, crate::specs::Operators::change))]
 fn reinstate_at(m: Monitor, i: usize) -> Stepped
     requires { i < 80 }
     ensures { result ≡ reinstate_at m i }

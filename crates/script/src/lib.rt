@@ -31,7 +31,7 @@ fn interval_call(m: Monitor, at: u64, payload: &[u8], out: &mut [u8; 8192]) -> T
     if 4096 < size {
         return unreadable(m, at, out);
     }
-    let mut report = io::buffer();
+    let mut report = [0; 4096];
     calls::interval(m, &payload[4..], &mut report[..size as usize], out)
 }
 

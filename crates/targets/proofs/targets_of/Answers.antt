@@ -1,4 +1,4 @@
-use Rattle.std.proofs.Common.{◌<◌, refl, arith, rules}
+use Rattle.std.proofs.Common.{arith, rules}
 use Rattle.trace.proofs.Sweeps.{sweep-none, sweep-more, sweep-end}
 use Rattle.plants.proofs.Soundness.{sound-aggregates}
 use Rattle.targets.specs.Targets.{member_at}

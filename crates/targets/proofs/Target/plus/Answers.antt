@@ -1,7 +1,6 @@
 use Rattle.std.proofs.Common.{◌≡◌, ◌∙◌, ap₂, arith}
 use lib.Dec.{lit<}
 use mir.Syntax.{w32}
-use mir.Val.{to_z, of_z}
 use mir.ValLaws.{to_z-of_z}
 use Rattle.signed.proofs.Sizes.{size_fits, held32, held64}
 use Rattle.aggregates.specs.Aggregates.{add_signed}
