@@ -403,9 +403,8 @@ fn second_mark(kind: u8, earlier: &[u8], later: &[u8]) -> u8
 
 // The mark, as 01 numbers it, for the second of two successive lines of a unit in no chain; 6 for an unknown kind or a line
 // that is not 40 bytes.
-#[unsafe(no_mangle)]
 #[tactic(auto, unfolding(crate::specs::Hosts::unit_mark_of))]
-pub extern "C" fn unit_mark(kind: u32, earlier: &[u8], later: &[u8]) -> u32
+pub fn unit_mark(kind: u32, earlier: &[u8], later: &[u8]) -> u32
     ensures { result ≡ unit_mark_of kind earlier.now later.now }
 {
     let sized = (earlier.len() == 40) & (later.len() == 40);
