@@ -1,7 +1,7 @@
 -- What holds of every list of calls from the empty ledger on. Assumes nothing.
 use mathlib.Core.Path.{◌≡◌, refl, sym, ◌∙◌}
 use mathlib.Core.Logic.{◌↔◌}
-use mathlib.Core.Bool.{true, false, false≢true}
+use mathlib.Core.Bool.{true, false≢true}
 use mathlib.Core.List.{List}
 use Rattle.trace.proofs.Lists.{follows, same-outcomes, since-test, test-since}
 use Rattle.ledger.specs.Ledgers.{empty}

@@ -1,5 +1,5 @@
 -- The words, the day's values and whether the unit is declared are put one after the other: there is room for the whole.
-use Rattle.std.proofs.Common.{rules, arith, ◌≡◌, ℕ, ◌+◌, ◌≤◌, Bool, List, ◌++◌, length, length-append, w32, w64, SFits}
+use Rattle.std.proofs.Common.{rules, arith, ◌≡◌, ℕ, ◌+◌, ◌≤◌, Bool, List, ◌++◌, length, length-append}
 use Rattle.signed.proofs.Sizes.{held64}
 use Rattle.response.specs.declared.Day.{Day}
 use Rattle.text.specs.Numbers.{ascii}
