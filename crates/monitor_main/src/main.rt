@@ -4,8 +4,6 @@
 // file holds. A file that cannot be opened, or not read, counts as empty.
 #![tactic(auto)]
 
-ghost use Rattle.std.specs.Prelude.{length};
-
 use monitor::Monitor;
 use std::fs;
 use std::io::{Eprint, Print, Read};
@@ -36,10 +34,9 @@ fn take_one<R: Print + Eprint, F: Read>(
     let got = input::read_full(file, buffer);
     let turn = program::step(m, &buffer[..got], out);
     let written = write(rt, out, turn.length);
-    let monitor = turn.monitor;
     Run {
-        more: turn.more & written,
-        monitor,
+        more: turn.more && written,
+        monitor: turn.monitor,
     }
 }
 
@@ -64,13 +61,10 @@ fn take_all<R: Print + Eprint, F: Read>(
 }
 
 fn read_intervals<R: Files + Print + Eprint>(rt: &R, m: Monitor, out: &mut [u8; 8192]) {
-    match fs::open(rt, "intervals.bin") {
-        Ok(mut file) => {
-            let size = program::interval_size(m);
-            let mut buffer = [0u8; 4096];
-            take_all(rt, &mut file, m, &mut buffer[0..size], out);
-        }
-        Err(_) => {}
+    if let Ok(mut file) = fs::open(rt, "intervals.bin") {
+        let size = program::interval_size(m);
+        let mut buffer = [0u8; 4096];
+        take_all(rt, &mut file, m, &mut buffer[0..size], out);
     }
 }
 
@@ -82,7 +76,7 @@ fn run_files<R: Files + Print + Eprint>(rt: &R, out: &mut [u8; 8192]) {
     let count = input::read(rt, "register.bin", &mut bytes);
     let turn = program::start(&bytes[..count], out);
     let written = write(rt, out, turn.length);
-    if turn.more & written {
+    if turn.more && written {
         read_intervals(rt, turn.monitor, out);
     }
 }

@@ -36,22 +36,16 @@ fn take_one<R: Print + Eprint, F: Read>(
     let taken = input::read_call(file, call);
     let turn = script::step(m, at, &call[0..taken], out);
     let written = output::write(rt, "replay: standard output", out, turn.length);
-    let monitor = turn.monitor;
     Run {
-        more: turn.more & written,
-        monitor,
+        more: turn.more && written,
+        monitor: turn.monitor,
         taken,
     }
 }
 
 // Call after call, until the list ends. A proved loop has to end, and nothing says that a file does, so the calls are
 // counted down, from a million million, which no run uses up.
-fn take_all<R: Print + Eprint, F: Read>(
-    rt: &R,
-    file: &mut F,
-    call: &mut [u8],
-    out: &mut [u8; 8192],
-)
+fn take_all<R: Print + Eprint, F: Read>(rt: &R, file: &mut F, call: &mut [u8], out: &mut [u8; 8192])
     requires { length call.old ≡ 8200 }
 {
     let mut m = monitor::new_monitor();
@@ -69,13 +63,10 @@ fn take_all<R: Print + Eprint, F: Read>(
 }
 
 fn run_calls<R: Files + Print + Eprint>(rt: &R) {
-    match fs::open(rt, "calls.bin") {
-        Ok(mut file) => {
-            let mut call = frames::room();
-            let mut out = program::room();
-            take_all(rt, &mut file, &mut call, &mut out);
-        }
-        Err(_) => {}
+    if let Ok(mut file) = fs::open(rt, "calls.bin") {
+        let mut call = frames::room();
+        let mut out = program::room();
+        take_all(rt, &mut file, &mut call, &mut out);
     }
 }
 

@@ -36,22 +36,16 @@ fn take_one<R: Print + Eprint, F: Read>(
     let taken = input::read_call(file, call);
     let turn = ledger_script::step(l, at, &call[0..taken], out);
     let written = output::write(rt, "response_ledger: standard output", out, turn.length);
-    let ledger = turn.ledger;
     Run {
-        more: turn.more & written,
-        ledger,
+        more: turn.more && written,
+        ledger: turn.ledger,
         taken,
     }
 }
 
 // Call after call, until the list ends. A proved loop has to end, and nothing says that a file does, so the calls are
 // counted down, from a million million, which no run uses up.
-fn take_all<R: Print + Eprint, F: Read>(
-    rt: &R,
-    file: &mut F,
-    call: &mut [u8],
-    out: &mut [u8; 128],
-)
+fn take_all<R: Print + Eprint, F: Read>(rt: &R, file: &mut F, call: &mut [u8], out: &mut [u8; 128])
     requires { length call.old ≡ 8200 }
 {
     let mut l = ledger::new_ledger();
@@ -69,13 +63,10 @@ fn take_all<R: Print + Eprint, F: Read>(
 }
 
 fn run_calls<R: Files + Print + Eprint>(rt: &R) {
-    match fs::open(rt, "ledger.bin") {
-        Ok(mut file) => {
-            let mut call = frames::room();
-            let mut out = ledger_script::room();
-            take_all(rt, &mut file, &mut call, &mut out);
-        }
-        Err(_) => {}
+    if let Ok(mut file) = fs::open(rt, "ledger.bin") {
+        let mut call = frames::room();
+        let mut out = ledger_script::room();
+        take_all(rt, &mut file, &mut call, &mut out);
     }
 }
 

@@ -1,4 +1,4 @@
-use Rattle.std.proofs.Common.{◌≡◌, ap, ◌∙◌, ℤ}
+use Rattle.std.proofs.Common.{ap, ◌∙◌, ℤ}
 use Rattle.signed.proofs.Sizes.{back32}
 use Rattle.operators.specs.Operators.{declare_of}
 use Rattle.script.proofs.Answers.{declared}
