@@ -8,6 +8,7 @@ ghost use Rattle.aggregates.specs.Views.{SmallView};
 
 use aggregates::{Sums, View};
 use marks::{Assessment, Mark, Sight};
+use std::io::{Eprint, Print};
 use telemetry::Line;
 
 fn put_mark(out: &mut [u8], at: usize, mark: Mark) -> usize {
@@ -36,13 +37,13 @@ fn put_assessment(out: &mut [u8], at: usize, a: Assessment) -> usize {
     put_whole(out, next, a.level)
 }
 
-fn print_case(label: &[u8], assessment: Assessment) {
+fn print_case<R: Print + Eprint>(rt: &R, label: &[u8], assessment: Assessment) {
     let mut out = io::buffer();
     let mut next = text::put_bytes(&mut out, 0, label);
     next = text::put_bytes(&mut out, next, b": ");
     next = put_assessment(&mut out, next, assessment);
     next = text::put_bytes(&mut out, next, b"\n");
-    output::write(b"trial_marks: standard output", &out, next);
+    output::write(rt, "trial_marks: standard output", &out, next);
 }
 
 // A unit at this interval's line, and at the one before it where that is kept.
@@ -122,7 +123,7 @@ fn size(b: u8) -> usize
 
 // The case that starts at `at`, and where the next one starts: a label with its length before it, its form, how many units it
 // has, and how many are given, which follow.
-fn one(cases: &[u8], at: usize) -> usize
+fn one<R: Print + Eprint>(rt: &R, cases: &[u8], at: usize) -> usize
     requires { at < length cases.now }
     ensures { at < result }
 {
@@ -145,28 +146,28 @@ fn one(cases: &[u8], at: usize) -> usize
         return cases.len();
     }
     let assessment = assess(cases[form], &cases[units..end], given, count);
-    print_case(&cases[label..form], assessment);
+    print_case(rt, &cases[label..form], assessment);
     end
 }
 
-fn all(cases: &[u8]) {
+fn all<R: Print + Eprint>(rt: &R, cases: &[u8]) {
     let mut at = 0;
     while at < cases.len() {
-        at = one(cases, at);
+        at = one(rt, cases, at);
     }
 }
 
 // The cases of a block of standard input. No case stands in two; zeros fill a block that another follows.
-fn block() {
+fn block<R: Print + Eprint>(rt: &R) {
     let mut buffer = io::large_buffer();
     let n = io::read_full(0, &mut buffer);
-    all(&buffer[..n]);
+    all(rt, &buffer[..n]);
 }
 
-fn main() {
+fn main(rt: HostRuntime) {
     let mut blocks: u8 = 0;
     while blocks < 4 {
-        block();
+        block(&rt);
         blocks += 1;
     }
 }

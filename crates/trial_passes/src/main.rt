@@ -10,6 +10,7 @@ use aggregates::View;
 use passes::Pass;
 use plants::Roster;
 use register::Answer;
+use std::io::{Eprint, Print};
 use telemetry::Line;
 
 fn size(b: u8) -> usize
@@ -78,11 +79,11 @@ fn views(roster: Roster, samples: &[u8], given: usize, picks: &[u8]) -> [View; 6
 
 // ---- what is printed of a case
 
-fn print_refused(label: &[u8], number: u32) {
+fn print_refused<R: Print + Eprint>(rt: &R, label: &[u8], number: u32) {
     let mut out = io::buffer();
     let mut next = text::put_bytes(&mut out, 0, label);
     next = text::put_numbered(&mut out, next, b": refused", number as u64);
-    output::write(b"trial_passes: standard output", &out, next);
+    output::write(rt, "trial_passes: standard output", &out, next);
 }
 
 // A space and a number.
@@ -98,7 +99,7 @@ fn put_whole(out: &mut [u8], at: usize, z: i32) -> usize {
 }
 
 // The aggregate's number, its mark as the report has it, error, trigger and level, and how many members were looked at.
-fn print_pass(label: &[u8], aggregate: usize, pass: Pass) {
+fn print_pass<R: Print + Eprint>(rt: &R, label: &[u8], aggregate: usize, pass: Pass) {
     let found = pass.assessment;
     let mark = found.mark;
     let mut out = io::buffer();
@@ -110,29 +111,43 @@ fn print_pass(label: &[u8], aggregate: usize, pass: Pass) {
     next = put_number(&mut out, next, found.trigger as u64);
     next = put_whole(&mut out, next, found.level);
     next = text::put_numbered(&mut out, next, b"", pass.looked as u64);
-    output::write(b"trial_passes: standard output", &out, next);
+    output::write(rt, "trial_passes: standard output", &out, next);
 }
 
-fn print_passes(label: &[u8], passes: [Pass; 16], aggregates: usize)
+fn print_passes<R: Print + Eprint>(rt: &R, label: &[u8], passes: [Pass; 16], aggregates: usize)
     requires { aggregates ≤ 16 }
 {
     let mut j = 0;
     while j < aggregates {
-        print_pass(label, j + 1, passes[j]);
+        print_pass(rt, label, j + 1, passes[j]);
         j += 1;
     }
 }
 
-fn print_roster(label: &[u8], roster: Roster, samples: &[u8], given: usize, picks: &[u8])
+fn print_roster<R: Print + Eprint>(
+    rt: &R,
+    label: &[u8],
+    roster: Roster,
+    samples: &[u8],
+    given: usize,
+    picks: &[u8],
+)
     requires roster_value { roster_sound roster ≡ true }
     requires given_in_bounds { (81 * given ≤ length samples.now) × (1 ≤ given) × (given < 256) × (1 ≤ length picks.now) }
 {
     let passes = passes::assess_aggregates(roster, views(roster, samples, given, picks));
-    print_passes(label, passes, roster.aggregates);
+    print_passes(rt, label, passes, roster.aggregates);
 }
 
 // An accepted roster is sound; the test of it here stands for a proof.
-fn print_case(label: &[u8], bytes: &[u8], samples: &[u8], given: usize, picks: &[u8])
+fn print_case<R: Print + Eprint>(
+    rt: &R,
+    label: &[u8],
+    bytes: &[u8],
+    samples: &[u8],
+    given: usize,
+    picks: &[u8],
+)
     requires { (81 * given ≤ length samples.now) × (1 ≤ given) × (given < 256) × (1 ≤ length picks.now) }
 {
     let registered = register::read_register(bytes);
@@ -141,10 +156,10 @@ fn print_case(label: &[u8], bytes: &[u8], samples: &[u8], given: usize, picks: &
     match answer {
         Answer::Accepted(_) => {
             if plants::roster_sound(roster) {
-                print_roster(label, roster, samples, given, picks);
+                print_roster(rt, label, roster, samples, given, picks);
             }
         }
-        Answer::Refused(number) => print_refused(label, number),
+        Answer::Refused(number) => print_refused(rt, label, number),
     }
 }
 
@@ -152,7 +167,7 @@ fn print_case(label: &[u8], bytes: &[u8], samples: &[u8], given: usize, picks: &
 
 // Runs a case from what stands behind its register, samples with their number and picks with theirs, and answers how many bytes they
 // have.
-fn run_units(label: &[u8], bytes: &[u8], rest: &[u8]) -> usize
+fn run_units<R: Print + Eprint>(rt: &R, label: &[u8], bytes: &[u8], rest: &[u8]) -> usize
     requires { 1 ≤ length rest.now }
     ensures { result ≤ length rest.now }
 {
@@ -173,13 +188,20 @@ fn run_units(label: &[u8], bytes: &[u8], rest: &[u8]) -> usize
     if count < 1 {
         return rest.len();
     }
-    print_case(label, bytes, &rest[1..sampled], given, &rest[picks..end]);
+    print_case(
+        rt,
+        label,
+        bytes,
+        &rest[1..sampled],
+        given,
+        &rest[picks..end],
+    );
     end
 }
 
 // Runs the case at `at`, and answers where the next one starts. A case is a label with its length before it, a register with its
 // length in two bytes, the low one first, and what `run_units` reads. No label is empty: a zero ends the cases of a block.
-fn run_case(cases: &[u8], at: usize) -> usize
+fn run_case<R: Print + Eprint>(rt: &R, cases: &[u8], at: usize) -> usize
     requires { at < length cases.now }
     ensures { at < result }
 {
@@ -196,27 +218,32 @@ fn run_case(cases: &[u8], at: usize) -> usize
     if cases.len() <= end {
         return cases.len();
     }
-    end + run_units(&cases[label..from], &cases[register..end], &cases[end..])
+    end + run_units(
+        rt,
+        &cases[label..from],
+        &cases[register..end],
+        &cases[end..],
+    )
 }
 
-fn run_cases(cases: &[u8]) {
+fn run_cases<R: Print + Eprint>(rt: &R, cases: &[u8]) {
     let mut at = 0;
     while at < cases.len() {
-        at = run_case(cases, at);
+        at = run_case(rt, cases, at);
     }
 }
 
 // The cases of a block of standard input. No case stands in two; zeros fill a block that another follows.
-fn run_block() {
+fn run_block<R: Print + Eprint>(rt: &R) {
     let mut buffer = io::large_buffer();
     let n = io::read_full(0, &mut buffer);
-    run_cases(&buffer[..n]);
+    run_cases(rt, &buffer[..n]);
 }
 
-fn main() {
+fn main(rt: HostRuntime) {
     let mut blocks: u8 = 0;
     while blocks < 4 {
-        run_block();
+        run_block(&rt);
         blocks += 1;
     }
 }

@@ -5,6 +5,7 @@
 ghost use Rattle.std.specs.Prelude.{◌<◌, length};
 
 use register::Answer;
+use std::io::{Eprint, Print};
 
 fn wide(b: u8) -> usize
     ensures { result < 256 }
@@ -19,17 +20,17 @@ fn put_answer(out: &mut [u8], at: usize, answer: Answer) -> usize {
     }
 }
 
-fn print_case(label: &[u8], bytes: &[u8]) {
+fn print_case<R: Print + Eprint>(rt: &R, label: &[u8], bytes: &[u8]) {
     let registered = register::read_register(bytes);
     let answer = registered.answer;
     let mut out = io::buffer();
     let mut next = text::put_bytes(&mut out, 0, label);
     next = put_answer(&mut out, next, answer);
-    output::write(b"trial_register: standard output", &out, next);
+    output::write(rt, "trial_register: standard output", &out, next);
 }
 
 // Runs the case at `at`, and answers where the next one starts.
-fn run_case(input: &[u8], at: usize) -> usize
+fn run_case<R: Print + Eprint>(rt: &R, input: &[u8], at: usize) -> usize
     requires { at < length input.now }
     ensures { at < result }
 {
@@ -39,23 +40,28 @@ fn run_case(input: &[u8], at: usize) -> usize
     if from <= input.len() {
         let to = from + wide(input[size]) + 256 * wide(input[size + 1]);
         if to <= input.len() {
-            print_case(&input[label..size], &input[from..to]);
+            print_case(rt, &input[label..size], &input[from..to]);
             return to;
         }
     }
-    output::write(b"trial_register: standard output", b"truncated case\n", 15);
+    output::write(
+        rt,
+        "trial_register: standard output",
+        b"truncated case\n",
+        15,
+    );
     input.len()
 }
 
-fn run_cases(input: &[u8]) {
+fn run_cases<R: Print + Eprint>(rt: &R, input: &[u8]) {
     let mut at = 0;
     while at < input.len() {
-        at = run_case(input, at);
+        at = run_case(rt, input, at);
     }
 }
 
-fn main() {
+fn main(rt: HostRuntime) {
     let mut buffer = io::large_buffer();
     let count = io::read_full(0, &mut buffer);
-    run_cases(&buffer[..count]);
+    run_cases(&rt, &buffer[..count]);
 }

@@ -3,6 +3,7 @@
 
 ghost use Rattle.std.specs.Prelude.{◌<◌, length};
 
+use std::io::{Eprint, Print};
 use telemetry::{Fields, Line, Reading};
 
 fn put_quality(out: &mut [u8], at: usize, reading: Reading) -> usize {
@@ -58,13 +59,13 @@ fn put_line(out: &mut [u8], at: usize, line: Line) -> usize {
     }
 }
 
-fn print_case(label: &[u8], line: Line) {
+fn print_case<R: Print + Eprint>(rt: &R, label: &[u8], line: Line) {
     let mut out = io::buffer();
     let mut next = text::put_bytes(&mut out, 0, label);
     next = text::put_bytes(&mut out, next, b": ");
     next = put_line(&mut out, next, line);
     next = text::put_bytes(&mut out, next, b"\n");
-    output::write(b"trial_telemetry: standard output", &out, next);
+    output::write(rt, "trial_telemetry: standard output", &out, next);
 }
 
 fn size(b: u8) -> usize
@@ -75,7 +76,7 @@ fn size(b: u8) -> usize
 
 // The case that starts at `at`, and where the next one starts: a label with its length before it, the kind, whether the unit
 // stands in a chain, and a line with its length before it.
-fn one(cases: &[u8], at: usize) -> usize
+fn one<R: Print + Eprint>(rt: &R, cases: &[u8], at: usize) -> usize
     requires { at < length cases.now }
     ensures { at < result }
 {
@@ -90,19 +91,19 @@ fn one(cases: &[u8], at: usize) -> usize
         return cases.len();
     }
     let read = telemetry::read_line(cases[unit], cases[unit + 1] == 1, &cases[line..end]);
-    print_case(&cases[label..unit], read);
+    print_case(rt, &cases[label..unit], read);
     end
 }
 
-fn all(cases: &[u8]) {
+fn all<R: Print + Eprint>(rt: &R, cases: &[u8]) {
     let mut at = 0;
     while at < cases.len() {
-        at = one(cases, at);
+        at = one(rt, cases, at);
     }
 }
 
-fn main() {
+fn main(rt: HostRuntime) {
     let mut buffer = io::large_buffer();
     let n = io::read_full(0, &mut buffer);
-    all(&buffer[..n]);
+    all(&rt, &buffer[..n]);
 }
