@@ -1,6 +1,6 @@
 -- Demand 3, over every list of interval, declare, reinstate, look, reason and target calls, refused ones included, from a freshly accepted
 -- register on.
-use Rattle.std.specs.Prelude.{◌≡◌, ◌↔◌, ◌⊎◌, Bool, true, false, cond, ◌&&◌, List, [], ◌∷◌, ◌++◌, ℕ, zero, suc, ◌+◌, ◌*◌, ◌≤◌, ℤ, length, take, drop}
+use Rattle.std.specs.Prelude.{◌≡◌, ◌↔◌, ◌⊎◌, Bool, true, false, cond, ◌&&◌, List, [], ◌∷◌, ◌++◌, ℕ, zero, suc, ◌*◌, ◌≤◌, ℤ, length, take, drop}
 use Rattle.trace.specs.Lists.{outcomes, Alike, sights, Since}
 use Rattle.plants.specs.Plants.{Plant, place}
 use Rattle.marks.specs.Levels.{is_dispatchable}
