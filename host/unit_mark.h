@@ -1,5 +1,4 @@
-/* The mark of a unit, for a host in C. Link with target/staticlib/libmarks.a, which `tools/gather` copies from
-   what `rt ci`, or `rt lib` in crates/marks_c, makes. */
+/* The mark of a unit, for a host in C. Link with target/staticlib/libmarks.a, which `tools/staticlib` makes. */
 #ifndef UNIT_MARK_H
 #define UNIT_MARK_H
 

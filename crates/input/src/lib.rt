@@ -3,9 +3,9 @@
 
 ghost use Rattle.std.specs.Prelude.{◌≡◌, ◌≤◌, length, take};
 
-use std::fs;
 use std::io::Read;
 use std::rt::Files;
+use std::{fs, str};
 
 // Reads until `bytes` is full, the input ends or a read fails, and returns how many bytes it put at the start.
 pub fn read_full<R: Read>(reader: &mut R, bytes: &mut [u8]) -> usize
@@ -23,13 +23,24 @@ pub fn read_full<R: Read>(reader: &mut R, bytes: &mut [u8]) -> usize
     done
 }
 
-// The file's first bytes, as many as it has and `bytes` has room for. A file that cannot be opened, or not read, counts as empty.
-pub fn read<R: Files>(rt: &R, path: &str, bytes: &mut [u8]) -> usize
+fn read_path<R: Files>(rt: &R, path: &str, bytes: &mut [u8]) -> usize
     ensures in_bounds { result ≤ length bytes.new }
     ensures prefix { result ≡ length (take result bytes.new) }
 {
     match fs::open(rt, path) {
         Ok(mut file) => read_full(&mut file, bytes),
+        Err(_) => 0,
+    }
+}
+
+// The file's first bytes, as many as it has and `bytes` has room for. A file that cannot be opened, or not read, counts as empty, and so
+// does one whose path is no text, since paths are text.
+pub fn read<R: Files>(rt: &R, path: &[u8], bytes: &mut [u8]) -> usize
+    ensures in_bounds { result ≤ length bytes.new }
+    ensures prefix { result ≡ length (take result bytes.new) }
+{
+    match str::from_utf8(path) {
+        Ok(text) => read_path(rt, text, bytes),
         Err(_) => 0,
     }
 }

@@ -11,7 +11,7 @@ use std::rt::Files;
 
 // Writes a step's text, the first bytes of `out`, in one write.
 fn write<R: Print + Eprint>(rt: &R, out: &[u8], length: usize) -> bool {
-    output::write(rt, "monitor_main: standard output", out, length)
+    output::write(rt, b"monitor_main: standard output", out, length)
 }
 
 // ---- intervals.bin
@@ -73,7 +73,7 @@ fn read_intervals<R: Files + Print + Eprint>(rt: &R, m: Monitor, out: &mut [u8; 
 // The longest register has 336 bytes, so with one byte more a longer file is seen to be too long.
 fn run_files<R: Files + Print + Eprint>(rt: &R, out: &mut [u8; 8192]) {
     let mut bytes = [0u8; 337];
-    let count = input::read(rt, "register.bin", &mut bytes);
+    let count = input::read(rt, b"register.bin", &mut bytes);
     let turn = program::start(&bytes[..count], out);
     let written = write(rt, out, turn.length);
     if turn.more && written {

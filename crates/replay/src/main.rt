@@ -35,7 +35,7 @@ fn take_one<R: Print + Eprint, F: Read>(
 {
     let taken = input::read_call(file, call);
     let turn = script::step(m, at, &call[0..taken], out);
-    let written = output::write(rt, "replay: standard output", out, turn.length);
+    let written = output::write(rt, b"replay: standard output", out, turn.length);
     Run {
         more: turn.more && written,
         monitor: turn.monitor,

@@ -66,8 +66,8 @@ fn day_flag(response: i64, target: u32) -> Flag
 // A day that is not refused.
 #[tactic(auto, unfolding(crate::specs::Days::day_of, crate::specs::Totals::totals_of))]
 fn assessed(earlier: u32, records: &[u8]) -> Day
-    requires records_value { is_whole records.now ≡ true }
-    requires records_value_2 { day_bounded earlier records.now ≡ true }
+    requires whole { is_whole records.now ≡ true }
+    requires bounded { day_bounded earlier records.now ≡ true }
     ensures { result ≡ day_of earlier records.now }
 {
     let totals = totals::sum_up(earlier, records);

@@ -53,8 +53,8 @@ impl Totals {
 }
 
 pub(crate) fn sum_up(earlier: u32, records: &[u8]) -> Totals
-    requires records_value { is_whole records.now ≡ true }
-    requires records_value_2 { day_bounded earlier records.now ≡ true }
+    requires whole { is_whole records.now ≡ true }
+    requires bounded { day_bounded earlier records.now ≡ true }
     ensures { result ≡ totals_of earlier records.now 288 }
 {
     let mut totals = Totals {

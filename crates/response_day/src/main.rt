@@ -11,9 +11,9 @@ use std::rt::Files;
 // A day has 3,460 bytes, so with one byte more a longer file is seen to be too long.
 fn run<R: Files + Print + Eprint>(rt: &R, out: &mut [u8; 64]) {
     let mut bytes = [0u8; 3461];
-    let count = input::read(rt, "day.bin", &mut bytes);
+    let count = input::read(rt, b"day.bin", &mut bytes);
     let length = response_text::put_file(out, &bytes[..count]);
-    output::write(rt, "response_day: standard output", out, length);
+    output::write(rt, b"response_day: standard output", out, length);
 }
 
 fn main(rt: HostRuntime) {

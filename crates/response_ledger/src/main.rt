@@ -35,7 +35,7 @@ fn take_one<R: Print + Eprint, F: Read>(
 {
     let taken = input::read_call(file, call);
     let turn = ledger_script::step(l, at, &call[0..taken], out);
-    let written = output::write(rt, "response_ledger: standard output", out, turn.length);
+    let written = output::write(rt, b"response_ledger: standard output", out, turn.length);
     Run {
         more: turn.more && written,
         ledger: turn.ledger,

@@ -43,7 +43,7 @@ fn print_case<R: Print + Eprint>(rt: &R, label: &[u8], assessment: Assessment) {
     next = text::put_bytes(&mut out, next, b": ");
     next = put_assessment(&mut out, next, assessment);
     next = text::put_bytes(&mut out, next, b"\n");
-    output::write(rt, "trial_marks: standard output", &out, next);
+    output::write(rt, b"trial_marks: standard output", &out, next);
 }
 
 // A unit at this interval's line, and at the one before it where that is kept.

@@ -83,7 +83,7 @@ fn print_refused<R: Print + Eprint>(rt: &R, label: &[u8], number: u32) {
     let mut out = io::buffer();
     let mut next = text::put_bytes(&mut out, 0, label);
     next = text::put_numbered(&mut out, next, b": refused", number as u64);
-    output::write(rt, "trial_passes: standard output", &out, next);
+    output::write(rt, b"trial_passes: standard output", &out, next);
 }
 
 // A space and a number.
@@ -111,7 +111,7 @@ fn print_pass<R: Print + Eprint>(rt: &R, label: &[u8], aggregate: usize, pass: P
     next = put_number(&mut out, next, found.trigger as u64);
     next = put_whole(&mut out, next, found.level);
     next = text::put_numbered(&mut out, next, b"", pass.looked as u64);
-    output::write(rt, "trial_passes: standard output", &out, next);
+    output::write(rt, b"trial_passes: standard output", &out, next);
 }
 
 fn print_passes<R: Print + Eprint>(rt: &R, label: &[u8], passes: [Pass; 16], aggregates: usize)

@@ -26,7 +26,7 @@ fn print_case<R: Print + Eprint>(rt: &R, label: &[u8], bytes: &[u8]) {
     let mut out = io::buffer();
     let mut next = text::put_bytes(&mut out, 0, label);
     next = put_answer(&mut out, next, answer);
-    output::write(rt, "trial_register: standard output", &out, next);
+    output::write(rt, b"trial_register: standard output", &out, next);
 }
 
 // Runs the case at `at`, and answers where the next one starts.
@@ -46,7 +46,7 @@ fn run_case<R: Print + Eprint>(rt: &R, input: &[u8], at: usize) -> usize
     }
     output::write(
         rt,
-        "trial_register: standard output",
+        b"trial_register: standard output",
         b"truncated case\n",
         15,
     );

@@ -65,7 +65,7 @@ fn print_case<R: Print + Eprint>(rt: &R, label: &[u8], line: Line) {
     next = text::put_bytes(&mut out, next, b": ");
     next = put_line(&mut out, next, line);
     next = text::put_bytes(&mut out, next, b"\n");
-    output::write(rt, "trial_telemetry: standard output", &out, next);
+    output::write(rt, b"trial_telemetry: standard output", &out, next);
 }
 
 fn size(b: u8) -> usize

@@ -5,7 +5,7 @@ use std::io::{Eprint, Print};
 
 fn print_line<R: Print + Eprint>(rt: &R, out: &mut [u8], next: usize) {
     let end = text::put_bytes(out, next, b"\n");
-    output::write(rt, "trial_text: standard output", out, end);
+    output::write(rt, b"trial_text: standard output", out, end);
 }
 
 fn number<R: Print + Eprint>(rt: &R, n: u64) {

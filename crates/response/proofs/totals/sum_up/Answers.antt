@@ -10,12 +10,12 @@ loop-i-init c = record { in_range = omega arith; so_far = totals-none _ _; befor
 pub plus-totals-requires-clause-small_totals : goal.plus-totals-requires-clause-small_totals
 plus-totals-requires-clause-small_totals c =
     let inside : c.loop-i.i < 288 = omega arith in
-    subst SmallTotals (sym c.loop-i.invariant.so_far) (totals-small c.args.earlier _ c.requires.records_value_2 _ inside)
+    subst SmallTotals (sym c.loop-i.invariant.so_far) (totals-small c.args.earlier _ c.requires.bounded _ inside)
 
 pub plus-totals-requires-clause-v_value : goal.plus-totals-requires-clause-v_value
 plus-totals-requires-clause-v_value c =
     let inside : c.loop-i.i < 288 = omega arith in
-    rw c.interval_at-v.ensures (bounded_at c.args.earlier _ c.requires.records_value_2 _ inside)
+    rw c.interval_at-v.ensures (bounded_at c.args.earlier _ c.requires.bounded _ inside)
 
 pub loop-i-preserved : goal.loop-i-preserved
 loop-i-preserved c =
