@@ -3,12 +3,11 @@ use mathlib.Core.Bool.{Bool, true, false, not}
 use Prim.Native.Nat.{ℕ, ◌+◌, ◌≤◌}
 use native.Mathlib.Omega.{arith}
 use lib.IntN.{ℤ, pos, nat_abs}
+use Rattle.std.specs.Prelude.{Option, Some, None, IfSome}
 use Rattle.signed.proofs.Sizes.{size-plus, size-minus}
-use Rattle.trace.proofs.Tests.{chosen}
+use Rattle.kinds.specs.declared.Kind.{Kind}
 use Rattle.telemetry.specs.Lines.{power_of}
 use Rattle.telemetry.specs.declared.Fields.{Fields}
-use Rattle.telemetry.specs.declared.Line.{Line}
-use Rattle.telemetry.specs.declared.Line.TheVariants.{Readable, Unreadable}
 use Rattle.triggers.specs.Triggers.{opposite, add_capability}
 use Rattle.triggers.specs.Bounds.{SmallCapability}
 use Rattle.marks.specs.Bounds.{SmallFields, SmallLine, SmallKept, SmallSight, SmallBasis}
@@ -16,28 +15,35 @@ use Rattle.triggers.specs.declared.Capability.{Capability}
 use Rattle.marks.specs.declared.Kept.{Kept}
 use Rattle.marks.specs.declared.Sight.{Sight}
 use Rattle.marks.proofs.Small.{power_small, capability-small, rate-small}
-use Rattle.aggregates.specs.Aggregates.{add_signed, add_unreadable, no_sums, way_of, aggregate_basis}
-use Rattle.aggregates.specs.Sizes.{SmallSums}
-use Rattle.aggregates.specs.Views.{readable_view, unreadable_view, line_view, view_of, SmallView}
+use Rattle.aggregates.specs.Aggregates.{add_signed, add_kept, add_unreadable, no_sums, way_of, aggregate_basis}
+use Rattle.aggregates.specs.Sizes.{SmallKeptSums, SmallSums}
+use Rattle.aggregates.specs.Views.{readable_view, line_view, view_of, SmallView}
 use Rattle.aggregates.specs.Views.{view_capability, present_with, kept_with, add_readable_view, add_view}
+use Rattle.aggregates.specs.declared.KeptSums.{KeptSums}
 use Rattle.aggregates.specs.declared.Sums.{Sums}
 use Rattle.aggregates.specs.declared.View.{View}
 
 -- ---- a member as the sums take it
 
-pub readable-small : (kind : ℕ) (f : Fields) (k : Kept) → SmallFields f → SmallKept k → SmallView (readable_view kind f k)
+pub readable-small : (kind : Option Kind) (f : Fields) (k : Option Kept) → SmallFields f → SmallKept k → SmallView (readable_view kind f k)
 unfolding readable_view
-readable-small kind f k s t = omega (arith, power_small (power_of f), capability-small s)
+readable-small kind f k s t =
+    let unit = capability-small s in
+    record {
+      target = s.target;
+      power = power_small (power_of f);
+      availability = s.availability;
+      up = unit.up;
+      down = unit.down;
+      kept = t;
+    }
 
-pub unreadable-small : (kind : ℕ) → SmallView (unreadable_view kind)
-unfolding unreadable_view
-unreadable-small kind = omega arith
+line-view-small : (kind : Option Kind) (l : Option Fields) (k : Option Kept) → SmallLine l → SmallKept k
+    → IfSome (line_view kind l k) (λ v. SmallView v)
+line-view-small kind (Some f) k s t = readable-small kind f k s t
+line-view-small kind None k s t = tt
 
-line-view-small : (kind : ℕ) (l : Line) (k : Kept) → SmallLine l → SmallKept k → SmallView (line_view kind l k)
-line-view-small kind (Readable f) k s t = readable-small kind f k s t
-line-view-small kind Unreadable k s t = unreadable-small kind
-
-pub view-small : (v : Sight) → SmallSight v → SmallView (view_of v)
+pub view-small : (v : Sight) → SmallSight v → IfSome (view_of v) (λ w. SmallView w)
 unfolding view_of
 view-small v s = line-view-small v.kind v.line v.kept s.line s.kept
 
@@ -61,25 +67,35 @@ pub view-capability-small : (v : View) → SmallView v → SmallCapability 20000
 unfolding view_capability
 view-capability-small v s = omega arith
 
-readable-more : {n : ℕ} (s : Sums) (v : View) → SmallSums n s → SmallView v → SmallSums (n + 2000000) (add_readable_view s v)
-unfolding add_readable_view present_with kept_with
-readable-more s v b c =
-    let unit = view-capability-small v c in
+kept-more : {n : ℕ} (load : Bool) (s : KeptSums) (k : Option Kept) → SmallKeptSums n s → SmallKept k
+    → SmallKeptSums (n + 2000000) (add_kept load s k)
+unfolding add_kept
+kept-more load s None b t = omega arith
+kept-more load s (Some k) b t =
     omega (
       arith,
-      signed-size v.load s.present.target v.target,
-      signed-size v.load s.present.power v.power,
-      signed-size v.load s.kept.target v.kept_target,
-      size-plus s.kept.raise (pos v.raise),
-      size-plus s.kept.lower (pos v.lower),
-      capability-more (not v.load) b.supply unit,
-      capability-more v.load b.loads unit,
+      signed-size load s.target k.target,
+      size-plus s.raise (pos k.raise),
+      size-plus s.lower (pos k.lower),
     )
 
-pub view-more : {n : ℕ} (s : Sums) (v : View) → SmallSums n s → SmallView v → SmallSums (n + 2000000) (add_view s v)
+readable-more : {n : ℕ} (s : Sums) (v : View) → SmallSums n s → SmallView v → SmallSums (n + 2000000) (add_readable_view s v)
+unfolding add_readable_view present_with kept_with
+readable-more {n} s v b c =
+    let unit = view-capability-small v c in
+    record {
+      present =
+          omega (arith, b.present, c, signed-size v.load s.present.target v.target, signed-size v.load s.present.power v.power);
+      kept = kept-more v.load s.kept v.kept b.kept c.kept;
+      supply = capability-more (not v.load) b.supply unit;
+      loads = capability-more v.load b.loads unit;
+    }
+
+pub view-more : {n : ℕ} (s : Sums) (v : Option View) → SmallSums n s → IfSome v (λ w. SmallView w)
+    → SmallSums (n + 2000000) (add_view s v)
 unfolding add_view add_unreadable
-view-more {n} s v b c =
-    chosen (SmallSums (n + 2000000)) v.readable (add_readable_view s v) (add_unreadable s) (readable-more s v b c) (omega arith)
+view-more s (Some v) b c = readable-more s v b c
+view-more s None b c = omega (arith, b)
 
 pub no-sums-small : SmallSums 0 no_sums
 no-sums-small = omega arith

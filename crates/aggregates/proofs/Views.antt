@@ -1,39 +1,21 @@
 -- A member's view adds what the member does. Assumes nothing.
 use mathlib.Core.Path.{◌≡◌, refl, ap, ◌∙◌}
-use mathlib.Core.Bool.{Bool, true, false, cond}
+use Rattle.std.specs.Prelude.{Option, Some, None}
+use Rattle.kinds.specs.declared.Kind.{Kind}
+use Rattle.telemetry.specs.declared.Fields.{Fields}
 use mathlib.Core.List.{List, [], ◌∷◌, map}
-use Prim.Native.Nat.{ℕ}
-use Rattle.telemetry.specs.declared.Line.{Line}
-use Rattle.telemetry.specs.declared.Line.TheVariants.{Readable, Unreadable}
 use Rattle.triggers.specs.Triggers.{capability_of}
 use Rattle.marks.specs.declared.Kept.{Kept}
 use Rattle.marks.specs.declared.Sight.{Sight}
-use Rattle.aggregates.specs.Aggregates.{add_flags, add_present, add_kept, add_readable, add_unreadable, add_line, add_member, add_members}
-use Rattle.aggregates.specs.Views.{readable_view, unreadable_view, line_view, view_of}
+use Rattle.aggregates.specs.Aggregates.{add_flags, add_present, add_readable, add_line, add_member, add_members}
+use Rattle.aggregates.specs.Views.{readable_view, line_view, view_of}
 use Rattle.aggregates.specs.Views.{view_capability, flags_with, present_with, kept_with, add_readable_view, add_view, add_views}
 use Rattle.aggregates.specs.declared.Sums.{Sums}
-use Rattle.aggregates.specs.declared.View.{View}
 
--- ---- by its line
-
-module _ (s : Sums) (v : View) where
-  abbrev either : Bool → Sums
-  either readable = cond readable (add_readable_view s v) (add_unreadable s)
-
-  pub view-readable : v.readable ≡ true → add_view s v ≡ add_readable_view s v
-  unfolding add_view
-  view-readable e = ap either e
-
-  pub view-unreadable : v.readable ≡ false → add_view s v ≡ add_unreadable s
-  unfolding add_view
-  view-unreadable e = ap either e
-
--- ---- of a member
-
-line-view : (s : Sums) (kind : ℕ) (l : Line) (k : Kept) → add_view s (line_view kind l k) ≡ add_line s kind l k
-unfolding add_view add_readable_view flags_with present_with kept_with view_capability readable_view unreadable_view add_readable add_flags add_present add_kept capability_of
-line-view s kind (Readable f) k = refl
-line-view s kind Unreadable k = refl
+line-view : (s : Sums) (kind : Option Kind) (l : Option Fields) (k : Option Kept) → add_view s (line_view kind l k) ≡ add_line s kind l k
+unfolding add_view add_readable_view flags_with present_with kept_with view_capability readable_view add_readable add_flags add_present capability_of
+line-view s kind (Some f) k = refl
+line-view s kind None k = refl
 
 pub add-view : (s : Sums) (v : Sight) → add_view s (view_of v) ≡ add_member s v
 unfolding view_of add_member

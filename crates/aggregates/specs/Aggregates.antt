@@ -1,9 +1,9 @@
 -- The assessment of an aggregate from its members, added one by one (01, "Triggers and errors" and "Marks and runs").
-use Rattle.std.specs.Prelude.{Bool, true, false, cond, not, ◌&&◌, ◌||◌, List, [], ◌∷◌, ℕ, max, eqb, ℤ, pos, ◌+ℤ◌, ◌-ℤ◌}
+use Rattle.std.specs.Prelude.{Bool, true, false, cond, not, ◌&&◌, ◌||◌, List, [], ◌∷◌, Option, Some, None, max, eqb, ℤ, pos, ◌+ℤ◌, ◌-ℤ◌}
+use Rattle.kinds.specs.declared.Kind.{Kind}
+use Rattle.kinds.specs.declared.Kind.TheVariants.{Generating, Load, Bidirectional, SemiScheduled}
 use Rattle.telemetry.specs.Lines.{power_of}
 use Rattle.telemetry.specs.declared.Fields.{Fields}
-use Rattle.telemetry.specs.declared.Line.{Line}
-use Rattle.telemetry.specs.declared.Line.TheVariants.{Readable, Unreadable}
 use Rattle.triggers.specs.Triggers.{direction_of, opposite, rate_of, unit_capability, add_capability}
 use Rattle.marks.specs.Assessments.{kilowatts_in, is_doubtful, is_known, judged, without}
 use Rattle.triggers.specs.declared.Direction.{Direction}
@@ -18,8 +18,13 @@ use Rattle.aggregates.specs.declared.Present.{Present}
 use Rattle.aggregates.specs.declared.KeptSums.{KeptSums}
 use Rattle.aggregates.specs.declared.Sums.{Sums}
 
-abbrev pub is_load : ℕ → Bool
-is_load kind = eqb kind 2
+-- kind 2: "load"
+abbrev pub is_load : Option Kind → Bool
+is_load None = false
+is_load (Some Generating) = false
+is_load (Some Load) = true
+is_load (Some Bidirectional) = false
+is_load (Some SemiScheduled) = false
 
 -- ---- one member more
 
@@ -28,7 +33,7 @@ unfoldable pub add_signed : Bool → ℤ → ℤ → ℤ
 add_signed load sum z = cond load (sum -ℤ z) (sum +ℤ z)
 
 -- whether every line is readable, some conformance mode is not 0, every member can be assessed, and some value is substituted
-unfoldable pub add_flags : Flags → Fields → Kept → Flags
+unfoldable pub add_flags : Flags → Fields → Option Kept → Flags
 add_flags s f k =
     record {
       readable = s.readable;
@@ -42,16 +47,17 @@ unfoldable pub add_present : Bool → Present → Fields → Present
 add_present load s f =
     record { target = add_signed load s.target f.target; power = add_signed load s.power (kilowatts_in (power_of f)) }
 
--- the kept MWB, signed, and "FCR as up and FCL as down of all members"
-unfoldable pub add_kept : Bool → KeptSums → Kept → KeptSums
-add_kept load s k =
+-- the kept MWB, signed, and "FCR as up and FCL as down of all members"; a member of which nothing is kept adds nothing
+unfoldable pub add_kept : Bool → KeptSums → Option Kept → KeptSums
+add_kept load s None = s
+add_kept load s (Some k) =
     record {
       target = add_signed load s.target k.target;
       raise = s.raise +ℤ pos k.raise;
       lower = s.lower +ℤ pos k.lower;
     }
 
-unfoldable pub add_readable : Sums → ℕ → Fields → Kept → Sums
+unfoldable pub add_readable : Sums → Option Kind → Fields → Option Kept → Sums
 add_readable s kind f k =
     record {
       flags = add_flags s.flags f k;
@@ -74,9 +80,9 @@ add_unreadable s =
       loads = s.loads;
     }
 
-abbrev pub add_line : Sums → ℕ → Line → Kept → Sums
-add_line s kind (Readable f) k = add_readable s kind f k
-add_line s kind Unreadable k = add_unreadable s
+abbrev pub add_line : Sums → Option Kind → Option Fields → Option Kept → Sums
+add_line s kind (Some f) k = add_readable s kind f k
+add_line s kind None k = add_unreadable s
 
 unfoldable pub add_member : Sums → Sight → Sums
 add_member s v = add_line s v.kind v.line v.kept

@@ -1,16 +1,16 @@
--- A member as its aggregate's sums take it: its line and its kept line in whole kW. How the code comes to the sums: nobody has to believe this.
+-- A member as its aggregate's sums take it: its readable line in whole kW and its kept line, or none where its line is unreadable. How the code comes to the sums: nobody has to believe this.
 -- `proofs/Views.antt` has that a member's view adds what the member does.
-use Rattle.std.specs.Prelude.{true, false, cond, not, ◌&&◌, ◌||◌, List, [], ◌∷◌, ℕ, ◌≤◌, min, eqb, pos, nat_abs, ◌+ℤ◌}
+use Rattle.std.specs.Prelude.{not, ◌&&◌, ◌||◌, List, [], ◌∷◌, Option, Some, None, ◌≤◌, min, eqb, nat_abs}
+use Rattle.kinds.specs.declared.Kind.{Kind}
 use Rattle.telemetry.specs.Lines.{power_of}
 use Rattle.telemetry.specs.declared.Fields.{Fields}
-use Rattle.telemetry.specs.declared.Line.{Line}
-use Rattle.telemetry.specs.declared.Line.TheVariants.{Readable, Unreadable}
 use Rattle.triggers.specs.Triggers.{unit_capability, add_capability}
 use Rattle.triggers.specs.declared.Capability.{Capability}
 use Rattle.marks.specs.Assessments.{kilowatts_in, is_doubtful, is_known}
+use Rattle.marks.specs.Bounds.{SmallKept}
 use Rattle.marks.specs.declared.Kept.{Kept}
 use Rattle.marks.specs.declared.Sight.{Sight}
-use Rattle.aggregates.specs.Aggregates.{is_load, add_signed, add_unreadable}
+use Rattle.aggregates.specs.Aggregates.{is_load, add_signed, add_kept, add_unreadable}
 use Rattle.aggregates.specs.declared.View.{View}
 use Rattle.aggregates.specs.declared.Flags.{Flags}
 use Rattle.aggregates.specs.declared.Present.{Present}
@@ -19,11 +19,10 @@ use Rattle.aggregates.specs.declared.Sums.{Sums}
 
 -- ---- what is taken of a member
 
-unfoldable pub readable_view : ℕ → Fields → Kept → View
+unfoldable pub readable_view : Option Kind → Fields → Option Kept → View
 readable_view kind f k =
     record {
       load = is_load kind;
-      readable = true;
       monitored = not (eqb f.mode 0);
       known = is_known f k;
       doubtful = is_doubtful (power_of f);
@@ -32,54 +31,14 @@ readable_view kind f k =
       availability = f.availability;
       up = (unit_capability f).up;
       down = (unit_capability f).down;
-      kept_target = k.target;
-      raise = k.raise;
-      lower = k.lower;
+      kept = k;
     }
 
--- of an unreadable line only that it is one
-unfoldable pub unreadable_view : ℕ → View
-unreadable_view kind =
-    record {
-      load = is_load kind;
-      readable = false;
-      monitored = false;
-      known = false;
-      doubtful = false;
-      target = pos 0;
-      power = pos 0;
-      availability = 0;
-      up = 0;
-      down = 0;
-      kept_target = pos 0;
-      raise = 0;
-      lower = 0;
-    }
+abbrev pub line_view : Option Kind → Option Fields → Option Kept → Option View
+line_view kind (Some f) k = Some (readable_view kind f k)
+line_view kind None k = None
 
--- zeros alone
-abbrev pub no_view : View
-no_view =
-    record {
-      load = false;
-      readable = false;
-      monitored = false;
-      known = false;
-      doubtful = false;
-      target = pos 0;
-      power = pos 0;
-      availability = 0;
-      up = 0;
-      down = 0;
-      kept_target = pos 0;
-      raise = 0;
-      lower = 0;
-    }
-
-abbrev pub line_view : ℕ → Line → Kept → View
-line_view kind (Readable f) k = readable_view kind f k
-line_view kind Unreadable k = unreadable_view kind
-
-unfoldable pub view_of : Sight → View
+unfoldable pub view_of : Sight → Option View
 view_of v = line_view v.kind v.line v.kept
 
 -- ---- one member more
@@ -100,12 +59,7 @@ unfoldable pub present_with : Present → View → Present
 present_with s v = record { target = add_signed v.load s.target v.target; power = add_signed v.load s.power v.power }
 
 unfoldable pub kept_with : KeptSums → View → KeptSums
-kept_with s v =
-    record {
-      target = add_signed v.load s.target v.kept_target;
-      raise = s.raise +ℤ pos v.raise;
-      lower = s.lower +ℤ pos v.lower;
-    }
+kept_with s v = add_kept v.load s v.kept
 
 unfoldable pub add_readable_view : Sums → View → Sums
 add_readable_view s v =
@@ -117,10 +71,11 @@ add_readable_view s v =
       loads = add_capability v.load s.loads (view_capability v);
     }
 
-unfoldable pub add_view : Sums → View → Sums
-add_view s v = cond v.readable (add_readable_view s v) (add_unreadable s)
+unfoldable pub add_view : Sums → Option View → Sums
+add_view s (Some v) = add_readable_view s v
+add_view s None = add_unreadable s
 
-abbrev pub add_views : Sums → List View → Sums
+abbrev pub add_views : Sums → List (Option View) → Sums
 add_views s [] = s
 add_views s (v ∷ vs) = add_views (add_view s v) vs
 
@@ -132,6 +87,4 @@ pub record SmallView (v : View) : Type 0 where
   pub availability : v.availability ≤ 2000000
   pub up : v.up ≤ 2000000
   pub down : v.down ≤ 2000000
-  pub kept_target : nat_abs v.kept_target ≤ 2000000
-  pub raise : v.raise ≤ 2000000
-  pub lower : v.lower ≤ 2000000
+  pub kept : SmallKept v.kept

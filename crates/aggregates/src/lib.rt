@@ -2,26 +2,30 @@
 // 2026-02).
 #![tactic(auto)]
 
-ghost use Rattle.std.specs.Prelude.{◌≡◌, ◌^◌, ◌<◌, nat_abs};
-ghost use Rattle.marks.specs.Bounds.{SmallFields};
-ghost use Rattle.marks.specs.Measures.{measures_of};
-ghost use Rattle.aggregates.specs.Aggregates.{add_signed, unreadable_flags, add_unreadable, no_sums, aggregate_basis, sums_assessment};
+ghost use Rattle.std.specs.Prelude.{◌≡◌, ◌^◌, ◌<◌, nat_abs, IfSome};
+ghost use Rattle.aggregates.specs.Aggregates.{is_load, add_signed, add_unreadable, no_sums, aggregate_basis, sums_assessment};
 ghost use Rattle.aggregates.specs.Sizes.{SmallPresent, SmallKeptSums, SmallSums};
-ghost use Rattle.aggregates.specs.Views.{no_view, readable_view, unreadable_view, view_capability, flags_with, present_with, kept_with};
+ghost use Rattle.aggregates.specs.Views.{readable_view, view_capability, flags_with, present_with, kept_with};
 ghost use Rattle.aggregates.specs.Views.{add_readable_view, add_view, SmallView};
 
-use marks::{Assessment, Basis, Kept, Mark, Measures};
-use telemetry::Fields;
+use kinds::Kind;
+use marks::{Assessment, Basis, Kept, Mark, Measured};
 use triggers::Capability;
 
 // ---- a member
 
-// A member as its aggregate's sums take it, in whole kW: whether it is a load, its line is readable, its conformance mode is not 0, it can be
-// assessed and its value is substituted; MWB, MW, MWO and both rates of this line; MWB, FCR and FCL of the kept one.
-#[derive(Clone, Copy)]
+// The numbers of a load are subtracted, or go to sums of their own.
+pub fn is_load(kind: Option<Kind>) -> bool
+    ensures { result ≡ is_load kind }
+{
+    matches!(kind, Some(Kind::Load))
+}
+
+// A member whose line is readable, as its aggregate's sums take it, in whole kW: whether it is a load, its conformance mode is not 0, it can be
+// assessed and its value is substituted; MWB, MW, MWO and both rates of this line; and the line kept before it.
+#[derive(Clone, Copy, Debug, PartialEq, Eq, Hash)]
 pub struct View {
     pub load: bool,
-    pub readable: bool,
     pub monitored: bool,
     pub known: bool,
     pub doubtful: bool,
@@ -30,70 +34,27 @@ pub struct View {
     pub availability: u32,
     pub up: u32,
     pub down: u32,
-    pub kept_target: i32,
-    pub raise: u32,
-    pub lower: u32,
+    pub kept: Option<Kept>,
 }
 
-pub fn no_view() -> View
-    ensures { result ≡ no_view }
-{
-    View {
-        load: false,
-        readable: false,
-        monitored: false,
-        known: false,
-        doubtful: false,
-        target: 0,
-        power: 0,
-        availability: 0,
-        up: 0,
-        down: 0,
-        kept_target: 0,
-        raise: 0,
-        lower: 0,
-    }
-}
-
-fn narrowed(n: u64) -> u32
-    requires { n < 2 ^ 32 }
-    ensures { result ≡ n }
-{
-    n as u32
-}
-
-// A member whose line is readable.
 #[tactic(auto, unfolding(marks::specs::Measures::measures_of, crate::specs::Views::readable_view))]
-pub fn view_of(kind: u8, f: Fields, k: Kept, measures: Measures) -> View
-    requires small_fields { SmallFields f }
-    requires measures_value { measures ≡ measures_of f }
-    ensures { result ≡ readable_view kind f k }
+pub fn view_of(kind: Option<Kind>, line: Measured, kept: Option<Kept>) -> View
+    ensures { result ≡ readable_view kind line.fields kept }
 {
+    let Measured { fields, measures } = line;
     let unit = measures.capability;
     View {
-        load: kind == 2,
-        readable: true,
-        monitored: f.mode != 0,
-        known: marks::is_known(f, k),
-        doubtful: marks::is_doubtful(f.power()),
-        target: f.target,
+        load: is_load(kind),
+        monitored: fields.mode != 0,
+        known: marks::is_known(fields, kept),
+        doubtful: marks::is_doubtful(fields.power()),
+        target: fields.target,
         power: measures.power,
-        availability: f.availability,
-        up: narrowed(unit.up),
-        down: narrowed(unit.down),
-        kept_target: k.target,
-        raise: k.raise,
-        lower: k.lower,
+        availability: fields.availability,
+        up: unit.up as u32,
+        down: unit.down as u32,
+        kept,
     }
-}
-
-#[tactic(auto, unfolding(crate::specs::Views::unreadable_view))]
-pub fn unreadable_view(kind: u8) -> View
-    ensures { result ≡ unreadable_view kind }
-{
-    let mut view = no_view();
-    view.load = kind == 2;
-    view
 }
 
 impl View {
@@ -101,13 +62,13 @@ impl View {
     fn capability(self) -> Capability
         ensures { result ≡ view_capability self }
     {
-        let up = self.up as u64;
-        let down = self.down as u64;
+        let up = u64::from(self.up);
+        let down = u64::from(self.down);
         Capability {
-            availability: self.availability as u64,
+            availability: u64::from(self.availability),
             up,
             down,
-            least: triggers::lesser(up, down),
+            least: up.min(down),
         }
     }
 }
@@ -116,7 +77,7 @@ impl View {
 
 // Of the members so far: whether every line is readable, some conformance mode is not 0, every member can be assessed, and some
 // value is substituted.
-#[derive(Clone, Copy)]
+#[derive(Clone, Copy, Debug, PartialEq, Eq, Hash)]
 pub struct Flags {
     pub readable: bool,
     pub monitored: bool,
@@ -125,22 +86,22 @@ pub struct Flags {
 }
 
 // Signed sums of this interval's MWB and MW.
-#[derive(Clone, Copy)]
+#[derive(Clone, Copy, Debug, Default, PartialEq, Eq, Hash)]
 pub struct Present {
     pub target: i64,
     pub power: i64,
 }
 
 // Sums over kept lines: signed MWB, and FCR and FCL.
-#[derive(Clone, Copy)]
+#[derive(Clone, Copy, Debug, Default, PartialEq, Eq, Hash)]
 pub struct KeptSums {
     pub target: i64,
     pub raise: i64,
     pub lower: i64,
 }
 
-// An aggregate's members so far. `supply` is over kinds 1 and 3, `loads` over kind 2. No chain has a unit of kind 4.
-#[derive(Clone, Copy)]
+// An aggregate's members so far. `supply` is over generating and bidirectional units, `loads` over loads. No chain has a semi-scheduled unit.
+#[derive(Clone, Copy, Debug, PartialEq, Eq, Hash)]
 pub struct Sums {
     pub flags: Flags,
     pub present: Present,
@@ -156,9 +117,9 @@ pub fn add_signed(load: bool, sum: i64, z: i32) -> i64
     ensures { result ≡ add_signed load sum z }
 {
     if load {
-        signed::minus(sum, signed::widened(z))
+        sum - i64::from(z)
     } else {
-        signed::plus(sum, signed::widened(z))
+        sum + i64::from(z)
     }
 }
 
@@ -169,17 +130,10 @@ impl Flags {
     {
         Flags {
             readable: self.readable,
-            monitored: self.monitored | member.monitored,
-            known: self.known & member.known,
-            doubtful: self.doubtful | member.doubtful,
+            monitored: self.monitored || member.monitored,
+            known: self.known && member.known,
+            doubtful: self.doubtful || member.doubtful,
         }
-    }
-
-    fn unreadable(mut self) -> Flags
-        ensures { result ≡ unreadable_flags self }
-    {
-        self.readable = false;
-        self
     }
 }
 
@@ -197,29 +151,27 @@ impl Present {
 }
 
 impl KeptSums {
-    #[tactic(auto, unfolding(crate::specs::Views::kept_with))]
+    #[tactic(auto, unfolding(crate::specs::Views::kept_with, crate::specs::Aggregates::add_kept))]
     fn plus(self, member: View) -> KeptSums
         requires { SmallKeptSums (2 ^ 59) self }
         ensures { result ≡ kept_with self member }
     {
+        let Some(kept) = member.kept else {
+            return self;
+        };
         KeptSums {
-            target: add_signed(member.load, self.target, member.kept_target),
-            raise: signed::plus(self.raise, signed::whole(member.raise)),
-            lower: signed::plus(self.lower, signed::whole(member.lower)),
+            target: add_signed(member.load, self.target, kept.target),
+            raise: self.raise + i64::from(kept.raise),
+            lower: self.lower + i64::from(kept.lower),
         }
     }
 }
 
-impl Sums {
-    pub fn none() -> Sums
-        ensures { result ≡ no_sums }
-    {
-        let nothing = Capability {
-            availability: 0,
-            up: 0,
-            down: 0,
-            least: 0,
-        };
+// Before the first member.
+impl Default for Sums {
+    ghost is_default = { λ sums. sums ≡ no_sums };
+
+    fn default() -> Self {
         Sums {
             flags: Flags {
                 readable: true,
@@ -227,69 +179,45 @@ impl Sums {
                 known: true,
                 doubtful: false,
             },
-            present: Present {
-                target: 0,
-                power: 0,
-            },
-            kept: KeptSums {
-                target: 0,
-                raise: 0,
-                lower: 0,
-            },
-            supply: nothing,
-            loads: nothing,
+            present: Present::default(),
+            kept: KeptSums::default(),
+            supply: Capability::default(),
+            loads: Capability::default(),
         }
     }
+}
 
+impl Sums {
     #[tactic(auto, unfolding(crate::specs::Views::add_readable_view))]
     fn plus_readable(self, member: View) -> Sums
         requires { SmallSums (2 ^ 59) self × SmallView member }
         ensures { result ≡ add_readable_view self member }
     {
-        let load = member.load;
-        let flags = self.flags;
-        let present = self.present;
-        let kept = self.kept;
-        let supply = self.supply;
-        let loads = self.loads;
         let unit = member.capability();
         Sums {
-            flags: flags.plus(member),
-            present: present.plus(member),
-            kept: kept.plus(member),
-            supply: supply.plus(!load, unit),
-            loads: loads.plus(load, unit),
+            flags: self.flags.plus(member),
+            present: self.present.plus(member),
+            kept: self.kept.plus(member),
+            supply: self.supply.plus(!member.load, unit),
+            loads: self.loads.plus(member.load, unit),
         }
     }
 
-    #[tactic(auto, unfolding(crate::specs::Aggregates::add_unreadable))]
-    fn plus_unreadable(self) -> Sums
-        ensures { result ≡ add_unreadable self }
-    {
-        let flags = self.flags;
-        let present = self.present;
-        let kept = self.kept;
-        let supply = self.supply;
-        let loads = self.loads;
-        Sums {
-            flags: flags.unreadable(),
-            present,
-            kept,
-            supply,
-            loads,
-        }
-    }
-
-    // One member more. Of an unreadable line nothing is added.
-    #[tactic(auto, unfolding(crate::specs::Views::add_view))]
-    pub fn plus(self, member: View) -> Sums
-        requires { SmallSums (2 ^ 59) self × SmallView member }
+    // One member more, which has a readable line or none. Of an unreadable one nothing is added.
+    #[tactic(auto, unfolding(crate::specs::Views::add_view, crate::specs::Aggregates::add_unreadable))]
+    pub fn plus(self, member: Option<View>) -> Sums
+        requires { SmallSums (2 ^ 59) self × IfSome member (λ view. SmallView view) }
         ensures { result ≡ add_view self member }
     {
-        if member.readable {
-            self.plus_readable(member)
-        } else {
-            self.plus_unreadable()
+        match member {
+            Some(view) => self.plus_readable(view),
+            None => Sums {
+                flags: Flags {
+                    readable: false,
+                    ..self.flags
+                },
+                ..self
+            },
         }
     }
 
@@ -298,19 +226,21 @@ impl Sums {
         requires { SmallSums 130000000 self }
         ensures { result ≡ aggregate_basis self }
     {
-        let flags = self.flags;
-        let present = self.present;
-        let kept = self.kept;
-        let supply = self.supply;
-        let loads = self.loads;
+        let Sums {
+            flags,
+            present,
+            kept,
+            supply,
+            loads,
+        } = self;
         let direction = triggers::direction_of(present.target, present.power);
         Basis {
             power: present.power,
             target: kept.target,
             up: kept.raise,
             down: kept.lower,
-            availability: triggers::greater(supply.availability, loads.availability),
-            rate: triggers::greater(supply.rate(direction), loads.rate(direction.turned())),
+            availability: supply.availability.max(loads.availability),
+            rate: supply.rate(direction).max(loads.rate(direction.turned())),
             doubtful: flags.doubtful,
             capped: false,
             unidirectional: false,
@@ -324,15 +254,15 @@ impl Sums {
         ensures { result ≡ sums_assessment self }
     {
         let flags = self.flags;
-        if flags.readable {
-            if flags.monitored {
-                if flags.known {
-                    return marks::judge(self.basis());
-                }
-                return marks::unassessed(Mark::Blank);
-            }
+        if !flags.readable {
+            return marks::unassessed(Mark::Blank);
+        }
+        if !flags.monitored {
             return marks::unassessed(Mark::Off);
         }
-        marks::unassessed(Mark::Blank)
+        if !flags.known {
+            return marks::unassessed(Mark::Blank);
+        }
+        marks::judge(self.basis())
     }
 }

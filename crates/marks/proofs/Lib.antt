@@ -1,6 +1,6 @@
 -- What belongs to no one function.
 pub mod Small
-pub mod Held
+pub mod Numbers
 pub mod Fields
 pub mod Rows
 pub mod SemiScheduled

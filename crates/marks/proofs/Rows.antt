@@ -8,6 +8,8 @@ use Rattle.telemetry.specs.Lines.{is_semi_scheduled, power_of}
 use Rattle.telemetry.specs.Ranges.{is_unidirectional}
 use Rattle.telemetry.specs.declared.Fields.{Fields}
 use Rattle.telemetry.specs.declared.Reading.TheVariants.{Good}
+use Rattle.telemetry.specs.declared.Quality.TheVariants as quality
+use Rattle.kinds.specs.Kinds.{kind_of}
 use Rattle.telemetry.proofs.Rows.{rows}
 use Rattle.triggers.specs.Triggers.{direction_of, rate_of, unit_capability, trigger_of}
 use Rattle.marks.specs.Errors.{error_of, exceeds}
@@ -18,7 +20,7 @@ use Rattle.marks.specs.declared.Basis.{Basis}
 use Rattle.marks.specs.declared.Mark.{Mark}
 use Rattle.marks.specs.declared.Mark.TheVariants.{Clear, Large}
 
-good : (f : Fields) → f.quality ≡ 0 → power_of f ≡ Good f.readings.power
+good : (f : Fields) → f.quality ≡ quality.Good → power_of f ≡ Good f.readings.power
 unfolding power_of
 good f q = rw q
 
@@ -27,17 +29,17 @@ basis kind power availability rate =
     record {
       power = power;
       target = pos 100000;
-      up = up_of kind kept_row;
-      down = down_of kind kept_row;
+      up = up_of (kind_of kind) kept_row;
+      down = down_of (kind_of kind) kept_row;
       availability = availability;
       rate = rate;
       doubtful = false;
-      capped = is_capped kind false;
-      unidirectional = is_unidirectional kind;
+      capped = is_capped (kind_of kind) false;
+      unidirectional = is_unidirectional (kind_of kind);
     }
 
 -- a row by its error, which computes from the kind and the power
-row : (kind : ℕ) (power : ℤ) (mark : Mark) (error : ℤ) → is_semi_scheduled kind ≡ false
+row : (kind : ℕ) (power : ℤ) (mark : Mark) (error : ℤ) → is_semi_scheduled (kind_of kind) ≡ false
     → ((availability rate : ℕ) → error_of (basis kind power availability rate) ≡ error)
     → mark_of error 600000 600000 false ≡ mark
     → Assessed kind power mark error
@@ -48,7 +50,7 @@ row kind power mark error k e m f q p t =
     rw (good f q, p, e f.availability rate, k, s.0, s.1) (m, refl)
 
 pub table : Table
-unfolding trigger_of error_of exceeds mark_of
+unfolding trigger_of error_of exceeds mark_of kind_of
 table =
     record {
       floor = (refl, refl);

@@ -1,9 +1,7 @@
 -- How large the numbers of a line, of a kept line and of a basis are. A readable line's are within 01's bounds, and an aggregate has at most 65
 -- of them.
-use Rattle.std.specs.Prelude.{◌≤◌, nat_abs}
+use Rattle.std.specs.Prelude.{Option, Some, None, ◌≤◌, nat_abs}
 use Rattle.telemetry.specs.declared.Fields.{Fields}
-use Rattle.telemetry.specs.declared.Line.{Line}
-use Rattle.telemetry.specs.declared.Line.TheVariants.{Readable, Unreadable}
 use Rattle.marks.specs.declared.Kept.{Kept}
 use Rattle.marks.specs.declared.Sight.{Sight}
 use Rattle.marks.specs.declared.Basis.{Basis}
@@ -14,14 +12,18 @@ pub record SmallFields (f : Fields) : Type 0 where
   pub raise : f.raise ≤ 2000000
   pub lower : f.lower ≤ 2000000
 
-abbrev pub SmallLine : Line → Type 0
-SmallLine (Readable f) = SmallFields f
-SmallLine Unreadable = Unit {0}
+abbrev pub SmallLine : Option Fields → Type 0
+SmallLine (Some f) = SmallFields f
+SmallLine None = Unit {0}
 
-pub record SmallKept (k : Kept) : Type 0 where
+pub record SmallKeptLine (k : Kept) : Type 0 where
   pub target : nat_abs k.target ≤ 2000000
   pub raise : k.raise ≤ 2000000
   pub lower : k.lower ≤ 2000000
+
+abbrev pub SmallKept : Option Kept → Type 0
+SmallKept (Some k) = SmallKeptLine k
+SmallKept None = Unit {0}
 
 pub record SmallSight (v : Sight) : Type 0 where
   pub line : SmallLine v.line

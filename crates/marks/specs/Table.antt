@@ -1,9 +1,10 @@
 -- 01's "Proved table", whole, as one statement about the definitions that the contracts cite.
-use Rattle.std.specs.Prelude.{◌≡◌, true, false, ℕ, ℤ, pos, negsuc}
+use Rattle.std.specs.Prelude.{◌≡◌, false, ℕ, Some, ℤ, pos, negsuc}
+use Rattle.kinds.specs.Kinds.{kind_of}
 use Rattle.floats.specs.Kilowatts.{kilowatts_of}
 use Rattle.telemetry.specs.Table.{BitsRows}
 use Rattle.telemetry.specs.declared.Fields.{Fields}
-use Rattle.telemetry.specs.declared.Line.TheVariants.{Readable}
+use Rattle.telemetry.specs.declared.Quality.TheVariants.{Good}
 use Rattle.triggers.specs.Triggers.{small_trigger, large_trigger}
 use Rattle.marks.specs.Assessments.{unit_basis, unit_assessment}
 use Rattle.marks.specs.declared.Kept.{Kept}
@@ -16,15 +17,15 @@ Triggers availability rate small large = (small_trigger availability rate ≡ sm
 
 -- "kept MWB 100,000 and FCR 5,000, FCL 0"
 abbrev pub kept_row : Kept
-kept_row = record { have = true; capped = false; target = pos 100000; raise = 5000; lower = 0 }
+kept_row = record { capped = false; target = pos 100000; raise = 5000; lower = 0 }
 
 -- "kind .. in no chain, good line, .. both triggers 600,000, MW .." gives the mark and the error, whatever else the line holds
 abbrev pub Assessed : ℕ → ℤ → Mark → ℤ → Type 0
 Assessed kind power mark error =
-    (f : Fields) → f.quality ≡ 0 → kilowatts_of f.readings.power ≡ power
-    → Triggers f.availability (unit_basis kind f kept_row).rate 600000 600000
-    → ((unit_assessment false (record { kind = kind; line = Readable f; kept = kept_row })).mark ≡ mark)
-    × ((unit_assessment false (record { kind = kind; line = Readable f; kept = kept_row })).error ≡ error)
+    (f : Fields) → f.quality ≡ Good → kilowatts_of f.readings.power ≡ power
+    → Triggers f.availability (unit_basis (kind_of kind) f kept_row).rate 600000 600000
+    → ((unit_assessment false (record { kind = kind_of kind; line = Some f; kept = Some kept_row })).mark ≡ mark)
+    × ((unit_assessment false (record { kind = kind_of kind; line = Some f; kept = Some kept_row })).error ≡ error)
 
 -- `negsuc 5999` is -6,000
 pub record Table : Type 0 where

@@ -5,70 +5,65 @@
 
 ghost use Rattle.std.specs.Prelude.{◌≡◌, ◌^◌, ◌<◌, nat_abs};
 ghost use Rattle.triggers.specs.Triggers.{direction_of, rate_of};
-ghost use Rattle.marks.specs.Errors.{over_of, under_of, error_of, exceeds};
-ghost use Rattle.marks.specs.KeptLines.{nothing_kept, kept_bounded, kept_from};
+ghost use Rattle.marks.specs.Errors.{error_of, exceeds};
+ghost use Rattle.marks.specs.KeptLines.{kept_line, kept_bounded, kept_from};
 ghost use Rattle.marks.specs.Assessments.{kilowatts_in, is_missing, is_doubtful, is_known, mark_of, judged, without, up_of, down_of};
 ghost use Rattle.marks.specs.Assessments.{is_capped, is_uncapped, unit_basis, known_assessment, readable_assessment, unit_assessment};
 ghost use Rattle.marks.specs.Measures.{measures_of};
-ghost use Rattle.marks.specs.Bounds.{SmallFields, SmallKept, SmallSight, SmallBasis};
+ghost use Rattle.marks.specs.Bounds.{SmallFields, SmallKeptLine, SmallKept, SmallSight, SmallBasis};
 ghost use Rattle.marks.specs.Hosts.{mark_number, second_mark, unit_mark_of};
 
-use telemetry::{Fields, Line, Reading};
+use kinds::Kind;
+use telemetry::{Fields, Reading};
 use triggers::Capability;
 
 // ---- kept lines
 
-// What the interval before left of a unit's line. Without `have` the rest is 0 and false. The cap flag plays a part for kind 4 alone.
-#[derive(Clone, Copy)]
+// What the interval before left of a unit's readable line. The cap flag plays a part for kind 4 alone.
+#[derive(Clone, Copy, Debug, PartialEq, Eq, Hash)]
 pub struct Kept {
-    pub have: bool,
     pub capped: bool,
     pub target: i32,
     pub raise: u32,
     pub lower: u32,
 }
 
-pub fn nothing_kept() -> Kept
-    ensures { result ≡ nothing_kept }
-{
-    Kept {
-        have: false,
-        capped: false,
-        target: 0,
-        raise: 0,
-        lower: 0,
+impl From<Fields> for Kept {
+    ghost from_gives = { λ f k. k ≡ kept_line f };
+
+    #[tactic(auto, unfolding(crate::specs::KeptLines::kept_line))]
+    fn from(f: Fields) -> Kept {
+        Kept {
+            capped: f.capped,
+            target: f.target,
+            raise: f.raise,
+            lower: f.lower,
+        }
     }
 }
 
 // A readable line is kept, whatever its quality; an unreadable one leaves nothing.
 #[tactic(auto, unfolding(crate::specs::KeptLines::kept_from))]
-pub fn kept_from(line: Line) -> Kept
+pub fn kept_from(line: Option<Fields>) -> Option<Kept>
     ensures { result ≡ kept_from line }
 {
-    match line {
-        Line::Readable(f) => Kept {
-            have: true,
-            capped: f.capped,
-            target: f.target,
-            raise: f.raise,
-            lower: f.lower,
-        },
-        Line::Unreadable => nothing_kept(),
-    }
+    line.map(Kept::from)
 }
 
 // Whether a kept line is within the bounds of a readable one.
 #[tactic(auto, unfolding(crate::specs::KeptLines::kept_bounded))]
-pub fn kept_bounded(k: Kept) -> bool
-    ensures { result ≡ kept_bounded k }
+pub fn kept_bounded(kept: Option<Kept>) -> bool
+    ensures { result ≡ kept_bounded kept }
 {
-    let target = signed::size(signed::widened(k.target)) <= 2000000;
-    target & (k.raise <= 2000000) & (k.lower <= 2000000)
+    let Some(kept) = kept else {
+        return true;
+    };
+    kept.target.unsigned_abs() <= 2_000_000 && kept.raise <= 2_000_000 && kept.lower <= 2_000_000
 }
 
 // ---- the assessment of a point
 
-#[derive(Clone, Copy)]
+#[derive(Clone, Copy, Debug, PartialEq, Eq, Hash)]
 pub enum Mark {
     Off,
     Blank,
@@ -79,7 +74,7 @@ pub enum Mark {
 }
 
 // The mark, the signed error, the small trigger, and the level at which the mark would declare the point.
-#[derive(Clone, Copy)]
+#[derive(Clone, Copy, Debug, PartialEq, Eq, Hash)]
 pub struct Assessment {
     pub mark: Mark,
     pub error: i32,
@@ -89,7 +84,7 @@ pub struct Assessment {
 
 // What a point that is neither Off nor Blank is assessed from. Where it is capped, only a positive error counts; where it is a unit of kind 1, 2
 // or 4, its level is not negative.
-#[derive(Clone, Copy)]
+#[derive(Clone, Copy, Debug, PartialEq, Eq, Hash)]
 pub struct Basis {
     pub power: i64,
     pub target: i64,
@@ -102,37 +97,16 @@ pub struct Basis {
     pub unidirectional: bool,
 }
 
-// How far the power is above the target with its up side.
-fn over_of(b: Basis) -> i64
-    requires { SmallBasis b }
-    ensures { result ≡ over_of b }
-{
-    signed::minus(b.power, signed::plus(b.target, b.up))
-}
-
-// How far the power is below the target with its down side, negative where it is.
-fn under_of(b: Basis) -> i64
-    requires { SmallBasis b }
-    ensures { result ≡ under_of b }
-{
-    signed::minus(0, signed::minus(signed::minus(b.target, b.down), b.power))
-}
-
-// `over` where it is positive, else `under` where it is negative, else 0.
+// How far the power is above the target with its up side, where it is above; else how far it is below the target with its down side, a negative
+// number, where it is below; else 0.
 #[tactic(auto, unfolding(crate::specs::Errors::error_of))]
 fn error_of(b: Basis) -> i64
     requires { SmallBasis b }
     ensures { result ≡ error_of b }
 {
-    let over = over_of(b);
-    if over > 0 {
-        return over;
-    }
-    let under = under_of(b);
-    if under < 0 {
-        return under;
-    }
-    0
+    let over = b.power - (b.target + b.up);
+    let under = b.power - (b.target - b.down);
+    if over > 0 { over } else { under.min(0) }
 }
 
 #[tactic(auto, unfolding(crate::specs::Errors::exceeds))]
@@ -140,7 +114,7 @@ fn over_trigger(error: i64, trigger: u64) -> bool
     requires { nat_abs error < 2 ^ 40 }
     ensures { result ≡ exceeds error trigger }
 {
-    trigger < signed::size(error) * 100
+    trigger < error.unsigned_abs() * 100
 }
 
 #[tactic(auto, unfolding(crate::specs::Assessments::mark_of))]
@@ -148,16 +122,15 @@ fn mark_of(error: i64, small: u64, large: u64, doubtful: bool) -> Mark
     requires { nat_abs error < 2 ^ 40 }
     ensures { result ≡ mark_of error small large doubtful }
 {
-    if over_trigger(error, small) {
-        if doubtful {
-            return Mark::Doubt;
-        }
-        if over_trigger(error, large) {
-            return Mark::Large;
-        }
-        return Mark::Small;
+    if !over_trigger(error, small) {
+        Mark::Clear
+    } else if doubtful {
+        Mark::Doubt
+    } else if over_trigger(error, large) {
+        Mark::Large
+    } else {
+        Mark::Small
     }
-    Mark::Clear
 }
 
 #[tactic(auto, unfolding(crate::specs::Assessments::judged))]
@@ -169,14 +142,12 @@ pub fn judge(b: Basis) -> Assessment
     let small = triggers::trigger_of(3, 200, b.availability, b.rate);
     let large = triggers::trigger_of(5, 400, b.availability, b.rate);
     let counted = signed::floored(b.capped, error);
-    let mark = mark_of(counted, small, large, b.doubtful);
-    let trigger = small as u32;
     let level = signed::floored(b.unidirectional, b.power);
     Assessment {
-        mark,
-        error: signed::narrowed(error),
-        trigger,
-        level: signed::narrowed(level),
+        mark: mark_of(counted, small, large, b.doubtful),
+        error: error as i32,
+        trigger: small as u32,
+        level: level as i32,
     }
 }
 
@@ -197,8 +168,7 @@ pub fn power_in(reading: Reading) -> i32
     ensures { result ≡ kilowatts_in reading }
 {
     match reading {
-        Reading::Good(x) => floats::kilowatts(x),
-        Reading::Substituted(x) => floats::kilowatts(x),
+        Reading::Good(x) | Reading::Substituted(x) => floats::kilowatts(x),
         Reading::Missing => 0,
     }
 }
@@ -207,11 +177,7 @@ pub fn power_in(reading: Reading) -> i32
 fn is_missing(reading: Reading) -> bool
     ensures { result ≡ is_missing reading }
 {
-    match reading {
-        Reading::Good(_) => false,
-        Reading::Substituted(_) => false,
-        Reading::Missing => true,
-    }
+    matches!(reading, Reading::Missing)
 }
 
 // A mark beyond a trigger turns to Doubt on a substituted value.
@@ -219,145 +185,142 @@ fn is_missing(reading: Reading) -> bool
 pub fn is_doubtful(reading: Reading) -> bool
     ensures { result ≡ is_doubtful reading }
 {
-    match reading {
-        Reading::Good(_) => false,
-        Reading::Substituted(_) => true,
-        Reading::Missing => false,
-    }
+    matches!(reading, Reading::Substituted(_))
 }
 
 // Whether a readable line can be assessed: it has a value, and a line is kept before it.
 #[tactic(auto, unfolding(crate::specs::Assessments::is_known))]
-pub fn is_known(f: Fields, k: Kept) -> bool
-    ensures { result ≡ is_known f k }
+pub fn is_known(f: Fields, kept: Option<Kept>) -> bool
+    ensures { result ≡ is_known f kept }
 {
-    !is_missing(f.power()) & k.have
+    !is_missing(f.power()) && kept.is_some()
 }
 
 // ---- a unit
 
 // A unit as an interval shows it.
-#[derive(Clone, Copy)]
+#[derive(Clone, Copy, Debug, PartialEq)]
 pub struct Sight {
-    pub kind: u8,
-    pub line: Line,
-    pub kept: Kept,
+    pub kind: Option<Kind>,
+    pub line: Option<Fields>,
+    pub kept: Option<Kept>,
 }
 
-fn up_of(kind: u8, k: Kept) -> i64
-    ensures { result ≡ up_of kind k }
+// The regulation sides of a unit of this kind, up and down: a load's are turned.
+fn sides_of(kind: Option<Kind>, kept: Kept) -> (i64, i64)
+    ensures up { result.0 ≡ up_of kind kept }
+    ensures down { result.1 ≡ down_of kind kept }
 {
-    if kind == 2 {
-        signed::whole(k.lower)
-    } else {
-        signed::whole(k.raise)
-    }
-}
-
-fn down_of(kind: u8, k: Kept) -> i64
-    ensures { result ≡ down_of kind k }
-{
-    if kind == 2 {
-        signed::whole(k.raise)
-    } else {
-        signed::whole(k.lower)
+    let raise = i64::from(kept.raise);
+    let lower = i64::from(kept.lower);
+    match kind {
+        Some(Kind::Load) => (lower, raise),
+        _ => (raise, lower),
     }
 }
 
 // What a readable line comes to in whole kW.
-#[derive(Clone, Copy)]
+#[derive(Clone, Copy, Debug, PartialEq, Eq, Hash)]
 pub struct Measures {
     pub power: i32,
     pub capability: Capability,
 }
 
+// A readable line, and what it comes to.
+#[derive(Clone, Copy, Debug, PartialEq)]
+pub struct Measured {
+    pub fields: Fields,
+    pub measures: Measures,
+    pub ghost measured: { measures ≡ measures_of fields },
+}
+
 #[tactic(auto, unfolding(crate::specs::Measures::measures_of))]
-pub fn measure(f: Fields) -> Measures
-    ensures { result ≡ measures_of f }
+pub fn measure(fields: Fields) -> Measured
+    ensures { result.fields ≡ fields }
 {
-    let power = power_in(f.power());
-    let readings = f.readings;
-    let capability = triggers::capability_of(readings, f.availability, f.bid_up, f.bid_down);
-    Measures { power, capability }
+    let measures = Measures {
+        power: power_in(fields.power()),
+        capability: triggers::capability_of(
+            fields.readings,
+            fields.availability,
+            fields.bid_up,
+            fields.bid_down,
+        ),
+    };
+    Measured { fields, measures }
 }
 
 // The rate of change goes by this line's target.
-fn unit_rate(f: Fields, measures: Measures) -> u64
-    ensures { result ≡ rate_of (direction_of f.target measures.power) measures.capability }
+fn unit_rate(target: i32, measures: Measures) -> u64
+    ensures { result ≡ rate_of (direction_of target measures.power) measures.capability }
 {
-    let power = signed::widened(measures.power);
-    let direction = triggers::direction_of(signed::widened(f.target), power);
-    let capability = measures.capability;
-    capability.rate(direction)
+    let direction = triggers::direction_of(i64::from(target), i64::from(measures.power));
+    measures.capability.rate(direction)
 }
 
 // A semi-scheduled unit whose cap flag is 1.
-fn is_capped(kind: u8, flag: bool) -> bool
+fn is_capped(kind: Option<Kind>, flag: bool) -> bool
     ensures { result ≡ is_capped kind flag }
 {
-    (kind == 4) & flag
+    matches!(kind, Some(Kind::SemiScheduled)) && flag
 }
 
 // A semi-scheduled unit whose cap flag is 0.
-fn is_uncapped(kind: u8, flag: bool) -> bool
+fn is_uncapped(kind: Option<Kind>, flag: bool) -> bool
     ensures { result ≡ is_uncapped kind flag }
 {
-    (kind == 4) & !flag
+    matches!(kind, Some(Kind::SemiScheduled)) && !flag
 }
 
 #[tactic(auto, unfolding(crate::specs::Assessments::unit_basis, crate::specs::Measures::measures_of))]
-fn unit_basis(kind: u8, f: Fields, k: Kept, measures: Measures) -> Basis
-    requires { measures ≡ measures_of f }
-    ensures { result ≡ unit_basis kind f k }
+fn unit_basis(kind: Option<Kind>, line: Measured, kept: Kept) -> Basis
+    ensures { result ≡ unit_basis kind line.fields kept }
 {
-    let availability = f.availability as u64;
+    let (up, down) = sides_of(kind, kept);
     Basis {
-        power: signed::widened(measures.power),
-        target: signed::widened(k.target),
-        up: up_of(kind, k),
-        down: down_of(kind, k),
-        availability,
-        rate: unit_rate(f, measures),
-        doubtful: is_doubtful(f.power()),
-        capped: is_capped(kind, k.capped),
+        power: i64::from(line.measures.power),
+        target: i64::from(kept.target),
+        up,
+        down,
+        availability: u64::from(line.fields.availability),
+        rate: unit_rate(line.fields.target, line.measures),
+        doubtful: is_doubtful(line.fields.power()),
+        capped: is_capped(kind, kept.capped),
         unidirectional: telemetry::is_unidirectional(kind),
     }
 }
 
 // A unit that has a value and a kept line.
 #[tactic(auto, unfolding(crate::specs::Assessments::known_assessment))]
-fn assess_known(kind: u8, f: Fields, k: Kept, measures: Measures) -> Assessment
-    requires small_fields { SmallFields f × SmallKept k }
-    requires measures_value { measures ≡ measures_of f }
-    ensures { result ≡ known_assessment kind f k }
+fn assess_known(kind: Option<Kind>, line: Measured, kept: Kept) -> Assessment
+    requires { SmallFields line.fields × SmallKeptLine kept }
+    ensures { result ≡ known_assessment kind line.fields kept }
 {
-    if is_uncapped(kind, k.capped) {
-        return unassessed(Mark::Off);
+    if is_uncapped(kind, kept.capped) {
+        unassessed(Mark::Off)
+    } else {
+        judge(unit_basis(kind, line, kept))
     }
-    judge(unit_basis(kind, f, k, measures))
 }
 
 // A unit whose line is readable.
 #[tactic(auto, unfolding(crate::specs::Assessments::readable_assessment))]
 pub fn assess_readable(
-    kind: u8,
+    kind: Option<Kind>,
     chained: bool,
-    f: Fields,
-    k: Kept,
-    measures: Measures,
+    line: Measured,
+    kept: Option<Kept>,
 ) -> Assessment
-    requires small_fields { SmallFields f × SmallKept k }
-    requires measures_value { measures ≡ measures_of f }
-    ensures { result ≡ readable_assessment kind chained f k }
+    requires { SmallFields line.fields × SmallKept kept }
+    ensures { result ≡ readable_assessment kind chained line.fields kept }
 {
-    let unmonitored = chained & (f.mode != 2);
-    if unmonitored {
+    if chained && line.fields.mode != 2 {
         return unassessed(Mark::Off);
     }
-    if is_known(f, k) {
-        return assess_known(kind, f, k, measures);
+    match kept {
+        Some(kept) if !is_missing(line.fields.power()) => assess_known(kind, line, kept),
+        _ => unassessed(Mark::Blank),
     }
-    unassessed(Mark::Blank)
 }
 
 // The assessment of a unit, which stands in a chain or in none.
@@ -366,51 +329,49 @@ pub fn assess_unit(chained: bool, unit: Sight) -> Assessment
     requires { SmallSight unit }
     ensures { result ≡ unit_assessment chained unit }
 {
-    let line = unit.line;
-    let kept = unit.kept;
-    match line {
-        Line::Readable(f) => assess_readable(unit.kind, chained, f, kept, measure(f)),
-        Line::Unreadable => unassessed(Mark::Blank),
+    match unit.line {
+        Some(f) => assess_readable(unit.kind, chained, measure(f), unit.kept),
+        None => unassessed(Mark::Blank),
     }
 }
 
 // ---- the C host's function
 
-#[tactic(auto, unfolding(crate::specs::Hosts::mark_number))]
-pub fn mark_number(mark: Mark) -> u8
-    ensures { result ≡ mark_number mark }
-{
-    match mark {
-        Mark::Off => 0,
-        Mark::Blank => 1,
-        Mark::Clear => 2,
-        Mark::Doubt => 3,
-        Mark::Small => 4,
-        Mark::Large => 5,
+impl From<Mark> for u8 {
+    ghost from_gives = { λ mark number. number ≡ mark_number mark };
+
+    #[tactic(auto, unfolding(crate::specs::Hosts::mark_number))]
+    fn from(mark: Mark) -> u8 {
+        match mark {
+            Mark::Off => 0,
+            Mark::Blank => 1,
+            Mark::Clear => 2,
+            Mark::Doubt => 3,
+            Mark::Small => 4,
+            Mark::Large => 5,
+        }
     }
 }
 
 #[tactic(auto, unfolding(crate::specs::Hosts::second_mark))]
-fn second_mark(kind: u8, earlier: &[u8], later: &[u8]) -> u8
+fn second_mark(kind: Option<Kind>, earlier: &[u8], later: &[u8]) -> u8
     ensures { result ≡ second_mark kind earlier.now later.now }
 {
     let kept = kept_from(telemetry::read_line(kind, false, earlier));
     let line = telemetry::read_line(kind, false, later);
-    let assessment = assess_unit(false, Sight { kind, line, kept });
-    let mark = assessment.mark;
-    mark_number(mark)
+    u8::from(assess_unit(false, Sight { kind, line, kept }).mark)
 }
 
 // The mark, as 01 numbers it, for the second of two successive lines of a unit in no chain; 6 for an unknown kind or a line
-// that is not 40 bytes.
+// that is not 40 bytes. The C interface takes any number as a kind and any line, and so has a number for those too.
 #[tactic(auto, unfolding(crate::specs::Hosts::unit_mark_of))]
 pub fn unit_mark(kind: u32, earlier: &[u8], later: &[u8]) -> u32
     ensures { result ≡ unit_mark_of kind earlier.now later.now }
 {
-    let sized = (earlier.len() == 40) & (later.len() == 40);
-    let known = (1 <= kind) & (kind <= 4);
-    if sized & known {
-        return second_mark((kind % 256) as u8, earlier, later) as u32;
+    let sized = earlier.len() == 40 && later.len() == 40;
+    let known = (1..=4).contains(&kind);
+    if sized && known {
+        return u32::from(second_mark(kinds::kind_of(kind as u8), earlier, later));
     }
     6
 }

@@ -2,17 +2,18 @@
 // Power is in kW, ramp rates in kW per minute, triggers in hundredths of a kW.
 #![tactic(auto)]
 
-ghost use Rattle.std.specs.Prelude.{◌≡◌, ◌*◌, ◌^◌, ◌≤◌, min, max, nat_abs};
+ghost use Rattle.std.specs.Prelude.{◌≡◌, ◌*◌, ◌^◌, ◌≤◌, min, nat_abs};
 ghost use Rattle.floats.specs.Kilowatts.{kilowatts_of};
 ghost use Rattle.triggers.specs.Triggers.{direction_of, opposite, rate_of, capability_of, add_capability, trigger_of};
 ghost use Rattle.triggers.specs.Bounds.{SmallCapability};
 
+use std::cmp::Ordering;
 use telemetry::Readings;
 
 // ---- rate of change
 
 // Which way the power has to go to reach the target.
-#[derive(Clone, Copy)]
+#[derive(Clone, Copy, Debug, PartialEq, Eq, Hash)]
 pub enum Direction {
     Up,
     Down,
@@ -20,7 +21,7 @@ pub enum Direction {
 }
 
 // Availability, and the rates of change up, down and at equality: a unit's own, or sums over units.
-#[derive(Clone, Copy)]
+#[derive(Clone, Copy, Debug, Default, PartialEq, Eq, Hash)]
 pub struct Capability {
     pub availability: u64,
     pub up: u64,
@@ -28,29 +29,15 @@ pub struct Capability {
     pub least: u64,
 }
 
-pub fn lesser(a: u64, b: u64) -> u64
-    ensures { result ≡ min a b }
-{
-    if a <= b { a } else { b }
-}
-
-pub fn greater(a: u64, b: u64) -> u64
-    ensures { result ≡ max a b }
-{
-    if a <= b { b } else { a }
-}
-
 #[tactic(auto, unfolding(crate::specs::Triggers::direction_of))]
 pub fn direction_of(target: i64, power: i64) -> Direction
     ensures { result ≡ direction_of target power }
 {
-    if power < target {
-        return Direction::Up;
+    match power.cmp(&target) {
+        Ordering::Less => Direction::Up,
+        Ordering::Greater => Direction::Down,
+        Ordering::Equal => Direction::Level,
     }
-    if target < power {
-        return Direction::Down;
-    }
-    Direction::Level
 }
 
 impl Direction {
@@ -85,19 +72,14 @@ impl Capability {
         requires { SmallCapability (2 ^ 60) self × SmallCapability (2 ^ 60) unit }
         ensures { result ≡ add_capability counts self unit }
     {
-        if counts {
-            let availability = self.availability + unit.availability;
-            let up = self.up + unit.up;
-            let down = self.down + unit.down;
-            let least = self.least + unit.least;
-            Capability {
-                availability,
-                up,
-                down,
-                least,
-            }
-        } else {
-            self
+        if !counts {
+            return self;
+        }
+        Capability {
+            availability: self.availability + unit.availability,
+            up: self.up + unit.up,
+            down: self.down + unit.down,
+            least: self.least + unit.least,
         }
     }
 }
@@ -106,8 +88,7 @@ impl Capability {
 fn allowed_rate(scada: f32, bid: u32) -> u64
     ensures { result ≡ min (nat_abs (kilowatts_of scada)) bid }
 {
-    let size = signed::size(signed::widened(floats::kilowatts(scada)));
-    lesser(size, bid as u64)
+    u64::from(floats::kilowatts(scada).unsigned_abs().min(bid))
 }
 
 // A unit's own, from the readings, the availability and the bid rates of its line.
@@ -123,10 +104,10 @@ pub fn capability_of(
     let up = allowed_rate(readings.ramp_up, bid_up);
     let down = allowed_rate(readings.ramp_down, bid_down);
     Capability {
-        availability: availability as u64,
+        availability: u64::from(availability),
         up,
         down,
-        least: lesser(up, down),
+        least: up.min(down),
     }
 }
 
@@ -138,5 +119,5 @@ pub fn trigger_of(share: u64, ramping: u64, availability: u64, rate: u64) -> u64
     requires { (share ≤ 5) × (ramping ≤ 400) × (availability ≤ 130000000) × (rate ≤ 130000000) }
     ensures { result ≡ trigger_of share ramping availability rate }
 {
-    greater(600000, lesser(share * availability, ramping * rate))
+    (share * availability).min(ramping * rate).max(600_000)
 }

@@ -1,19 +1,21 @@
+use Rattle.std.proofs.Common.{◌≡◌, ◌≤◌, ◌<◌, ◌^◌, arith, rules}
 use Rattle.telemetry.specs.declared.Fields.{Fields}
-use Rattle.marks.proofs.Small.{capability-small}
-use Rattle.marks.specs.Bounds.{SmallFields}
+use Rattle.triggers.specs.Triggers.{capability_of}
 use Rattle.marks.specs.Measures.{measures_of}
 use Rattle.marks.specs.declared.Measures.{Measures}
-use Rattle.triggers.specs.Bounds.{SmallCapability}
-use Rattle.std.proofs.Common.{◌≡◌, arith}
 use Rattle.aggregates.proofs.view_of.Goals as goal
 
--- a unit as it is measured has small rates
-measured-small : {f : Fields} (m : Measures) → SmallFields f → m ≡ measures_of f → SmallCapability 2000000 m.capability
-unfolding measures_of
-measured-small m s e = rw e (capability-small s)
+-- the rates of a line are no greater than its bids, which fit
+rates-bid : (f : Fields) (m : Measures) → m ≡ measures_of f → (m.capability.up ≤ f.bid_up) × (m.capability.down ≤ f.bid_down)
+unfolding measures_of capability_of
+rates-bid f m e = rw e (omega arith, omega arith)
 
-pub narrowed-requires : goal.narrowed-requires
-narrowed-requires c = omega (arith, measured-small _ c.requires.small_fields c.requires.measures_value)
+pub overflow_cast-result : goal.overflow_cast-result
+overflow_cast-result c =
+    let bid : c.args.line.fields.bid_up < 2 ^ 32 = search rules in
+    omega (arith, (rates-bid _ _ c.args.line.measured).0)
 
-pub narrowed-requires-2 : goal.narrowed-requires-2
-narrowed-requires-2 c = omega (arith, measured-small _ c.requires.small_fields c.requires.measures_value)
+pub overflow_cast-result-2 : goal.overflow_cast-result-2
+overflow_cast-result-2 c =
+    let bid : c.args.line.fields.bid_down < 2 ^ 32 = search rules in
+    omega (arith, (rates-bid _ _ c.args.line.measured).1)

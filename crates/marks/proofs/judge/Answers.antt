@@ -1,15 +1,37 @@
--- The error and the trigger are small enough for their types.
-use Rattle.triggers.proofs.Thresholds.{small-bounded}
-use Rattle.marks.proofs.Small.{error-size}
+-- The error, the trigger and the level are small enough for their types.
+use Rattle.std.proofs.Common.{arith, ◌≡◌, ℤ, ◌≤◌, nat_abs, to_z, of_z, w32, w64}
 use Rattle.std.proofs.lemmas.Int.{ints}
-use Rattle.std.proofs.Common.{arith}
+use Rattle.triggers.proofs.Thresholds.{small-bounded}
+use Rattle.marks.specs.Assessments.{judged}
+use Rattle.marks.proofs.Fields.{assessment-is}
+use Rattle.marks.proofs.Small.{error-size}
 use Rattle.marks.proofs.judge.Goals as goal
 
-pub mark_of-mark-requires : goal.mark_of-mark-requires
-mark_of-mark-requires c = omega (arith, ints, error-size _ c.requires)
+-- a small number is the same in either width
+wide : (z : ℤ) → nat_abs z ≤ 390000000 → to_z w64 (of_z w64 z) ≡ z
+wide z h = omega (arith, ints)
 
-pub overflow_cast-trigger : goal.overflow_cast-trigger
-overflow_cast-trigger c = omega (arith, small-bounded c.args.b.availability c.args.b.rate c.requires.availability)
+narrow : (z : ℤ) → nat_abs z ≤ 390000000 → to_z w32 (of_z w32 (to_z w64 (of_z w64 z))) ≡ z
+narrow z h = omega (arith, ints)
 
-pub narrowed-requires : goal.narrowed-requires
-narrowed-requires c = omega (arith, ints, error-size _ c.requires)
+pub mark_of-requires : goal.mark_of-requires
+mark_of-requires c = omega (arith, ints, error-size _ c.requires)
+
+pub overflow_cast-result : goal.overflow_cast-result
+overflow_cast-result c = omega (arith, ints, error-size _ c.requires)
+
+pub overflow_cast-result-2 : goal.overflow_cast-result-2
+overflow_cast-result-2 c = omega (arith, small-bounded c.args.b.availability c.args.b.rate c.requires.availability)
+
+pub returns : goal.returns
+unfolding judged
+returns c =
+    let error = c.error_of-error.result in
+    let counted = c.floored-counted.result in
+    let level = c.floored-level.result in
+    let error_small : nat_abs error ≤ 390000000 = omega (arith, ints, error-size _ c.requires) in
+    let counted_small : nat_abs counted ≤ 390000000 = omega (arith, ints) in
+    let level_small : nat_abs level ≤ 390000000 = omega (arith, ints) in
+    let power_small : nat_abs c.args.b.power ≤ 390000000 = omega arith in
+    assessment-is (cc (wide error error_small, wide counted counted_small)) (cc (narrow error error_small)) (cc)
+    (cc (wide c.args.b.power power_small, narrow level level_small))

@@ -2,8 +2,8 @@ use Rattle.marks.proofs.Small.{line_small, kept_small}
 use Rattle.std.specs.Prelude.{false}
 use Rattle.marks.proofs.second_mark.Goals as goal
 
-pub assess_unit-assessment-requires : goal.assess_unit-assessment-requires
-assess_unit-assessment-requires c =
+pub assess_unit-requires : goal.assess_unit-requires
+assess_unit-requires c =
     let s = c.args in
     record {
       line = rw c.read_line-line.ensures (line_small s.kind false s.later.now);
