@@ -13,14 +13,15 @@ use Rattle.trace.specs.Sweeps.{records}
 use Rattle.trace.proofs.Sweeps.{below_or_not, every-all, get_or-sweep, get_or-sweep-past, sweep-same, records-rise, replicate-same}
 use Rattle.plants.specs.Plants.{place}
 use Rattle.plants.specs.Rosters.{start_of, count_of, entries, stretch_of}
-use Rattle.plants.specs.Rosters.{kinds_known, place_at, places_in, stretch_at, stretches_in, roster_sound}
+use Rattle.plants.specs.Rosters.{kinds_known, place_at, places_in, no_stretch, stretch_at, ends_at, stretches_in, roster_sound}
+use Rattle.plants.specs.declared.Stretch.{Stretch}
 use Rattle.plants.proofs.Soundness.{counts-in, sound-by}
 use Rattle.chains.specs.declared.Chains.{Chains}
 use Rattle.chains.specs.declared.visits.Walked.{Walked}
 use Rattle.chains.specs.Chains.{members_of, all_members, places_of, plant_of}
 use Rattle.chains.specs.Rules.{indices_in, met_once, Walkable}
-use Rattle.chains.specs.Layouts.{start_at, count_at, flat_of, roster_of, SideBySide}
-use Rattle.chains.specs.Walks.{unwalked, walked, stretches_walked, roster_from}
+use Rattle.chains.specs.Layouts.{start_at, count_at, stretch_laid, flat_of, roster_of, SideBySide}
+use Rattle.chains.specs.Walks.{unwalked, walked, stretch_walked, stretches_walked, roster_from}
 use Rattle.chains.proofs.Steps.{chain-end, Units}
 use Rattle.chains.proofs.Members.{once-length}
 use Rattle.chains.proofs.Walks.{all-units, walk-met, walk-list}
@@ -77,20 +78,23 @@ places-inside c inside least =
 
 module _ (c : Chains) (walkable : Walkable c) where
   module _ (j : ℕ) (l : j < c.aggregates) where
-    fits : c.aggregates ≤ length (replicate {A = ℕ} 16 0)
-    fits = omega (arith, length-replicate {A = ℕ} 16 0, walkable.aggregates)
+    laid : stretch_at (roster_of c).stretches j ≡ stretch_laid c j
+    unfolding roster_of
+    laid =
+        get_or-sweep (stretch_laid c) c.aggregates (replicate 16 no_stretch) no_stretch j l
+        (omega (arith, length-replicate 16 no_stretch, walkable.aggregates))
 
     pub start-laid : start_of (roster_of c) j ≡ start_at c j
-    unfolding roster_of
-    start-laid = get_or-sweep (start_at c) c.aggregates (replicate 16 0) 0 j l fits
+    start-laid = ap (λ (s : Stretch). s.start) laid
 
     pub count-laid : count_of (roster_of c) j ≡ count_at c j
-    unfolding roster_of
-    count-laid = get_or-sweep (count_at c) c.aggregates (replicate 16 0) 0 j l fits
+    count-laid = ap (λ (s : Stretch). s.count) laid
 
   pub count_past : (j : ℕ) → c.aggregates ≤ j → count_of (roster_of c) j ≡ 0
   unfolding roster_of
-  count_past j l = get_or-sweep-past (count_at c) c.aggregates (replicate 16 0) 0 j l ∙ replicate-same 16 0 j
+  count_past j l =
+      ap (λ (s : Stretch). s.count)
+      (get_or-sweep-past (stretch_laid c) c.aggregates (replicate 16 no_stretch) no_stretch j l ∙ replicate-same 16 no_stretch j)
 
   -- ---- stretches
 
@@ -136,28 +140,27 @@ module _ (c : Chains) (walkable : Walkable c) where
         omega (arith, all-few, walkable.units)
 
     -- each fits a byte
-    start_small : (j : ℕ) → j < c.aggregates → start_at c j % 256 ≡ start_at c j
-    start_small j l = mod-eq_of_lt (omega (arith, start-few j l))
-
-    count_small : (j : ℕ) → j < c.aggregates → count_at c j % 256 ≡ count_at c j
-    count_small j l = mod-eq_of_lt (omega (arith, start-few j l))
+    stretch_small : (j : ℕ) → j < c.aggregates → stretch_walked c j ≡ stretch_laid c j
+    stretch_small j l =
+        let start : start_at c j % 256 ≡ start_at c j = mod-eq_of_lt (omega (arith, start-few j l)) in
+        let count : count_at c j % 256 ≡ count_at c j = mod-eq_of_lt (omega (arith, start-few j l)) in
+        rw (start, count) refl
 
     pub laid_out : (w : Walked) → w.walk ≡ walked unwalked (all_members c) → w.stretches ≡ stretches_walked c → roster_from c w ≡ roster_of c
     unfolding roster_from roster_of stretches_walked
     laid_out w e s =
-        let starts = sweep-same (λ j. start_at c j % 256) (start_at c) c.aggregates (replicate 16 0) start_small in
-        let counts = sweep-same (λ j. count_at c j % 256) (count_at c) c.aggregates (replicate 16 0) count_small in
+        let stretches = sweep-same (stretch_walked c) (stretch_laid c) c.aggregates (replicate 16 no_stretch) stretch_small in
         let met = walk-met c walkable.inside walkable.units in
         let list = walk-list c walkable.inside walkable.units (omega (arith, all-few, walkable.units)) in
-        rw (e, s, starts, counts, met, list)
+        rw (e, s, stretches, met, list)
 
     -- ---- and what is laid out passes the test of a roster
 
-    stretches-inside : stretches_in (roster_of c).starts (roster_of c).counts c.aggregates ≡ true
+    stretches-inside : stretches_in (roster_of c).stretches c.aggregates ≡ true
     unfolding stretches_in
     stretches-inside =
-        every-all (stretch_at (roster_of c).starts (roster_of c).counts) c.aggregates
-        (λ j l. rw (start-laid j l, count-laid j l) (le-leb (start_at c j + count_at c j) 64 (start-few j l)))
+        every-all (ends_at (roster_of c).stretches) c.aggregates
+        (λ j l. rw (laid j l) (le-leb (start_at c j + count_at c j) 64 (start-few j l)))
 
     pub laid-sound : 1 ≤ c.units → kinds_known c.kinds c.units ≡ true → roster_sound (roster_of c) ≡ true
     unfolding roster_of

@@ -10,20 +10,21 @@ use native.Mathlib.Omega.{arith}
 use borrow.Author.Tests.{leb-true, leb-false, le-leb, lt-leb, eqb-true, eqb-false, not-true, not-false}
 use lib.Dec.{leb, eqb}
 use lib.ListN.{length, get_or, set, drop, replicate, length-append, length-set, length-map, length-replicate, get_or-replicate}
-use lib.Seq.{append_snoc, drop-cons, set_at, set_out, get_or-set_same, get_or-set_other, ext_get_or}
+use lib.Seq.{append_snoc, drop-cons, set_at, get_or-set_same, get_or-set_other, ext_get_or}
 use Rattle.trace.specs.Sweeps.{every, sweep, records}
 use Rattle.trace.proofs.Sweeps.{below_or_not, every-mono, every-all, every-fails, sweep-none, sweep-more, sweep-end, records-none, records-more}
 use Rattle.trace.proofs.Sweeps.{length-sweep, get_or-sweep, get_or-sweep-past}
 use Rattle.plants.specs.Plants.{place}
 use Rattle.chains.specs.declared.Chains.{Chains}
 use Rattle.chains.specs.declared.visits.Walk.{Walk}
-use Rattle.chains.specs.declared.visits.Stretches.{Stretches}
+use Rattle.plants.specs.declared.Stretch.{Stretch}
+use Rattle.plants.specs.Rosters.{no_stretch}
 use Rattle.chains.specs.Chains.{chain, members_of, all_members, times_in, met_at, chained_of}
 use Rattle.chains.specs.Rules.{once_at, indices_in, met_once, Walkable}
 use Rattle.chains.specs.Layouts.{start_at, count_at, flat_of}
-use Rattle.chains.specs.Walks.{unwalked, step_to, walked, stretches_walked}
+use Rattle.chains.specs.Walks.{unwalked, step_to, walked, stretch_walked, stretches_walked}
 use Rattle.chains.proofs.Indices.{next-inside, head-inside}
-use Rattle.chains.proofs.Steps.{chain-end, chain-out, chain_more, length-chain, times-append, times-same, times-other, times_none}
+use Rattle.chains.proofs.Steps.{chain-end, chain-out, chain-turn, length-chain, times-append, times-same, times-other, times_none}
 use Rattle.chains.proofs.Steps.{Units, units-none, units-append, units_in}
 
 same_or_not : (a b : ℕ) → (a ≡ b) ⊎ (a ≡ b → ⊥)
@@ -32,17 +33,6 @@ same_or_not a b = go (eqb a b) refl
     go : (t : Bool) → eqb a b ≡ t → (a ≡ b) ⊎ (a ≡ b → ⊥)
     go true e = inl (eqb-true a b e)
     go false e = inr (eqb-false a b e)
-
--- past the list's end nothing is stored
-pub list_full : (members : List ℕ) (at i : ℕ) → length members ≡ 64 → 64 ≤ at → members ≡ set members at i
-list_full members at i e h = sym (set_out members at i (omega arith))
-
-pub step-listed : (w : Walk) (i : ℕ) (list : List ℕ) → list ≡ set w.members w.steps i
-    → ◌≡◌ {A = Walk}
-    (record { met = set w.met i true; members = list; steps = w.steps + 1; twice = w.twice || get_or w.met i false })
-    (step_to w i)
-unfolding step_to
-step-listed w i list e = rw e
 
 pub walked-append : (w : Walk) (xs ys : List ℕ) → walked w (xs ++ ys) ≡ walked (walked w xs) ys
 unfolding walked
@@ -59,57 +49,56 @@ chain_steps w next (suc k) (suc i) = let rest = chain_steps (step_to w i) next k
 
 -- ---- along one chain
 
--- What is left of the chain, walked from here, ends where the whole chain does.
-pub record Along (c : Chains) (before : Walk) (head : ℕ) (w : Walk) (unit left : ℕ) : Type 0 where
-  pub turns : left ≤ 65
+-- What is left of the chain after so many turns, walked from here, ends where the whole chain does.
+pub record Along (c : Chains) (before : Walk) (head : ℕ) (w : Walk) (unit turns : ℕ) : Type 0 where
   pub small : c.units ≤ 64
   pub place : unit ≤ c.units
-  pub few : w.steps + left ≤ before.steps + 65
-  pub whole : walked w (chain c.next left unit) ≡ walked before (chain c.next 65 head)
+  pub few : w.steps ≤ before.steps + turns
+  pub whole : walked w (chain c.next (65 - turns) unit) ≡ walked before (chain c.next 65 head)
 
 module _ (c : Chains) (before : Walk) (head : ℕ) where
-  pub along-none : Walkable c → head ≤ c.units → Along c before head before head 65
-  along-none walkable h = record { turns = omega arith; small = walkable.units; place = h; few = omega arith; whole = refl }
+  pub along-none : Walkable c → head ≤ c.units → Along c before head before head 0
+  along-none walkable h = record { small = walkable.units; place = h; few = omega arith; whole = refl }
 
-  pub along-more : Walkable c → (w v : Walk) (unit left i : ℕ) → 0 < left → (unit ≡ 0 → ⊥) → Along c before head w unit left
-      → i ≡ unit - 1 → v ≡ step_to w i → Along c before head v (get_or c.next i 0) (left - 1)
+  pub along-more : Walkable c → (w v : Walk) (unit turns i : ℕ) → turns < 65 → 0 < unit → Along c before head w unit turns
+      → i ≡ unit - 1 → v ≡ step_to w i → Along c before head v (get_or c.next i 0) (turns + 1)
   unfolding walked step_to
-  along-more walkable w v unit left i l n a e q =
-      let h : 0 < unit = omega arith in
+  along-more walkable w v unit turns i n h a e q =
+      let one : suc (unit - 1) ≡ unit = omega arith in
+      let rest = chain c.next (65 - (turns + 1)) (get_or c.next (unit - 1) 0) in
+      let turn : chain c.next (65 - turns) unit ≡ suc (unit - 1) ∷ rest = rw one (chain-turn c.next 65 turns unit n h) in
       rw (q, e)
       record {
-        turns = omega (arith, a.turns);
         small = a.small;
         place = next-inside c walkable.inside (unit - 1) (omega (arith, a.place));
         few = omega (arith, a.few);
-        whole = ap (walked w) (sym (chain_more c.next left unit l h)) ∙ a.whole;
+        whole = ap (walked w) (sym turn) ∙ a.whole;
       }
 
   -- the chain has ended, or its steps are used up
-  pub along-end : (w : Walk) (unit left : ℕ) → Along c before head w unit left → unit ≡ 0 → w ≡ walked before (chain c.next 65 head)
+  pub along-end : (w : Walk) (unit turns : ℕ) → Along c before head w unit turns → unit ≡ 0 → w ≡ walked before (chain c.next 65 head)
   unfolding walked
-  along-end w unit left a e =
-      let none : chain c.next left unit ≡ [] = rw e (chain-end c.next left) in sym (ap (walked w) none) ∙ a.whole
+  along-end w unit turns a e =
+      let none : chain c.next (65 - turns) unit ≡ [] = rw e (chain-end c.next (65 - turns)) in sym (ap (walked w) none) ∙ a.whole
 
-  pub along-out : (w : Walk) (unit left : ℕ) → Along c before head w unit left → left ≤ 0 → w ≡ walked before (chain c.next 65 head)
+  pub along-out : (w : Walk) (unit turns : ℕ) → Along c before head w unit turns → 65 ≤ turns → w ≡ walked before (chain c.next 65 head)
   unfolding walked
-  along-out w unit left a h =
-      let z : left ≡ 0 = omega arith in
-      let none : chain c.next left unit ≡ [] = rw z (chain-out c.next unit) in sym (ap (walked w) none) ∙ a.whole
+  along-out w unit turns a h =
+      let z : 65 - turns ≡ 0 = omega arith in
+      let none : chain c.next (65 - turns) unit ≡ [] = rw z (chain-out c.next unit) in sym (ap (walked w) none) ∙ a.whole
 
 -- ---- along all chains
 
-pub record Across (c : Chains) (w : Walk) (starts counts : List ℕ) (j : ℕ) : Type 0 where
+pub record Across (c : Chains) (w : Walk) (stretches : List Stretch) (j : ℕ) : Type 0 where
   pub turns : j ≤ c.aggregates
   pub most : c.aggregates ≤ 16
   pub few : w.steps ≤ 65 * j
   pub whole : w ≡ walked unwalked (records (members_of c) j)
   pub steps : w.steps ≡ start_at c j
-  pub started : starts ≡ sweep (λ i. start_at c i % 256) j (replicate 16 0)
-  pub counted : counts ≡ sweep (λ i. count_at c i % 256) j (replicate 16 0)
+  pub laid : stretches ≡ sweep (stretch_walked c) j (replicate 16 no_stretch)
 
 module _ (c : Chains) where
-  pub across-none : Walkable c → Across c unwalked (replicate 16 0) (replicate 16 0) 0
+  pub across-none : Walkable c → Across c unwalked (replicate 16 no_stretch) 0
   unfolding walked start_at
   across-none walkable =
       record {
@@ -118,8 +107,7 @@ module _ (c : Chains) where
         few = omega arith;
         whole = ap (walked unwalked) (sym (records-none (members_of c)));
         steps = ap length (sym (records-none (members_of c)));
-        started = sweep-none (λ i. start_at c i % 256) (replicate 16 0);
-        counted = sweep-none (λ i. count_at c i % 256) (replicate 16 0);
+        laid = sweep-none (stretch_walked c) (replicate 16 no_stretch);
       }
 
   module _ (w v : Walk) (j : ℕ) (e : v ≡ walked w (chain c.next 65 (get_or c.heads j 0))) where
@@ -130,12 +118,15 @@ module _ (c : Chains) where
     pub across-rises : w.steps ≤ v.steps
     across-rises = omega (arith, across-steps)
 
-    pub across-more : (starts counts : List ℕ) (start count : ℕ) → j < c.aggregates → Across c w starts counts j
-        → start ≡ w.steps % 256 → count ≡ (v.steps - w.steps) % 256 → Across c v (set starts j start) (set counts j count) (j + 1)
+    pub across-more : (stretches : List Stretch) (s : Stretch) → j < c.aggregates → Across c w stretches j
+        → s.start ≡ w.steps % 256 → s.count ≡ (v.steps - w.steps) % 256 → Across c v (set stretches j s) (j + 1)
     unfolding members_of start_at count_at
-    across-more starts counts start count l a s n =
+    across-more stretches s l a p q =
         let here = across-steps in
         let taken : v.steps - w.steps ≡ count_at c j = omega arith in
+        let started : s.start ≡ start_at c j % 256 = p ∙ ap (λ (k : ℕ). k % 256) a.steps in
+        let counted : s.count ≡ count_at c j % 256 = q ∙ ap (λ (k : ℕ). k % 256) taken in
+        let laid : s ≡ stretch_walked c j = rw (← started, ← counted) refl in
         record {
           turns = omega arith;
           most = a.most;
@@ -146,11 +137,10 @@ module _ (c : Chains) where
               ∙ sym (walked-append unwalked (records (members_of c) j) (members_of c j))
               ∙ ap (walked unwalked) (sym (records-more (members_of c) j));
           steps = here ∙ rw (a.steps, records-more (members_of c) j, length-append (records (members_of c) j) (members_of c j));
-          started = sweep-more (λ i. start_at c i % 256) j (replicate 16 0) starts start a.started (s ∙ ap (λ (k : ℕ). k % 256) a.steps);
-          counted = sweep-more (λ i. count_at c i % 256) j (replicate 16 0) counts count a.counted (n ∙ ap (λ (k : ℕ). k % 256) taken);
+          laid = sweep-more (stretch_walked c) j (replicate 16 no_stretch) stretches s a.laid laid;
         }
 
-  module _ (w : Walk) (starts counts : List ℕ) (j : ℕ) (a : Across c w starts counts j) (l : c.aggregates ≤ j) where
+  module _ (w : Walk) (stretches : List Stretch) (j : ℕ) (a : Across c w stretches j) (l : c.aggregates ≤ j) where
     all : j ≡ c.aggregates
     all = omega (arith, a.turns)
 
@@ -158,12 +148,9 @@ module _ (c : Chains) where
     unfolding all_members
     across-walk = a.whole ∙ ap (λ (k : ℕ). walked unwalked (records (members_of c) k)) all
 
-    pub across-stretches : ◌≡◌ {A = Stretches} (record { starts = starts; counts = counts }) (stretches_walked c)
+    pub across-stretches : stretches ≡ stretches_walked c
     unfolding stretches_walked
-    across-stretches =
-        let s = sweep-end (λ i. start_at c i % 256) j c.aggregates (replicate 16 0) starts a.turns l a.started in
-        let n = sweep-end (λ i. count_at c i % 256) j c.aggregates (replicate 16 0) counts a.turns l a.counted in
-        rw (s, n)
+    across-stretches = sweep-end (stretch_walked c) j c.aggregates (replicate 16 no_stretch) stretches a.turns l a.laid
 
 -- ---- what a walk over a list of units has recorded
 

@@ -3,8 +3,9 @@
 use Rattle.std.specs.Prelude.{◌≡◌, List, ◌++◌, map, ℕ, suc, ◌+◌, ◌<◌, length, take, drop, replicate}
 use Rattle.trace.specs.Sweeps.{sweep, records}
 use Rattle.plants.specs.Plants.{place}
-use Rattle.plants.specs.Rosters.{start_of, count_of, stretch_of, held}
+use Rattle.plants.specs.Rosters.{no_stretch, start_of, count_of, stretch_of, held}
 use Rattle.plants.specs.declared.Roster.{Roster}
+use Rattle.plants.specs.declared.Stretch.{Stretch}
 use Rattle.chains.specs.Chains.{members_of, all_members, chained_of, plant_of}
 use Rattle.chains.specs.declared.Chains.{Chains}
 
@@ -14,6 +15,9 @@ start_at c j = length (records (members_of c) j)
 
 unfoldable pub count_at : Chains → ℕ → ℕ
 count_at c j = length (members_of c j)
+
+abbrev pub stretch_laid : Chains → ℕ → Stretch
+stretch_laid c j = record { start = start_at c j; count = count_at c j }
 
 -- the places of all members, with zeros past them
 unfoldable pub flat_of : Chains → List ℕ
@@ -29,8 +33,7 @@ roster_of c =
       kinds = c.kinds;
       chained = chained_of c;
       members = flat_of c;
-      starts = sweep (start_at c) c.aggregates (replicate 16 0);
-      counts = sweep (count_at c) c.aggregates (replicate 16 0);
+      stretches = sweep (stretch_laid c) c.aggregates (replicate 16 no_stretch);
     }
 
 -- "The list must equal the chains it came from"

@@ -1,5 +1,7 @@
 -- The tests of chains, by the numbers of the rules that they belong to (01, "Refused because of what was sent"; 02, 2026-01).
-use Rattle.std.specs.Prelude.{◌≡◌, Bool, true, false, ◌&&◌, ◌||◌, not, List, ℕ, suc, ◌≤◌, leb, eqb, get_or}
+use Rattle.std.specs.Prelude.{◌≡◌, Bool, true, false, ◌&&◌, ◌||◌, not, List, ℕ, suc, ◌≤◌, leb, eqb, get_or, Option, None}
+use Rattle.kinds.specs.declared.Kind.{Kind}
+use Rattle.kinds.specs.Kinds.{is_semi_scheduled}
 use Rattle.trace.specs.Sweeps.{every}
 use Rattle.chains.specs.Chains.{all_members, times_in, chained_of}
 use Rattle.chains.specs.declared.Chains.{Chains}
@@ -30,8 +32,8 @@ unfoldable pub rest_ends : Chains → Bool
 rest_ends c = every (ends_at (chained_of c) c.next) c.units
 
 -- 30: "kind 4 in a chain": a unit that a chain met is scheduled, and not semi-scheduled
-abbrev pub scheduled_at : List Bool → List ℕ → ℕ → Bool
-scheduled_at chained kinds i = not (get_or chained i false && eqb (get_or kinds i 0) 4)
+abbrev pub scheduled_at : List Bool → List (Option Kind) → ℕ → Bool
+scheduled_at chained kinds i = not (get_or chained i false && is_semi_scheduled (get_or kinds i None))
 
 unfoldable pub members_scheduled : Chains → Bool
 members_scheduled c = every (scheduled_at (chained_of c) c.kinds) c.units

@@ -2,10 +2,11 @@
 use Rattle.std.specs.Prelude.{true, false, ◌||◌, List, [], ◌∷◌, ℕ, zero, suc, ◌+◌, ◌%◌, get_or, set, replicate}
 use Rattle.trace.specs.Sweeps.{sweep}
 use Rattle.plants.specs.declared.Roster.{Roster}
+use Rattle.plants.specs.declared.Stretch.{Stretch}
+use Rattle.plants.specs.Rosters.{no_stretch}
 use Rattle.chains.specs.Layouts.{start_at, count_at}
 use Rattle.chains.specs.declared.Chains.{Chains}
 use Rattle.chains.specs.declared.visits.Walk.{Walk}
-use Rattle.chains.specs.declared.visits.Stretches.{Stretches}
 use Rattle.chains.specs.declared.visits.Walked.{Walked}
 
 abbrev pub unwalked : Walk
@@ -27,12 +28,11 @@ walked w (zero ∷ units) = walked w units
 walked w (suc i ∷ units) = walked (step_to w i) units
 
 -- starts and counts as bytes: a walk that meets units twice may be longer than one can hold
-unfoldable pub stretches_walked : Chains → Stretches
-stretches_walked c =
-    record {
-      starts = sweep (λ j. start_at c j % 256) c.aggregates (replicate 16 0);
-      counts = sweep (λ j. count_at c j % 256) c.aggregates (replicate 16 0);
-    }
+abbrev pub stretch_walked : Chains → ℕ → Stretch
+stretch_walked c j = record { start = start_at c j % 256; count = count_at c j % 256 }
+
+unfoldable pub stretches_walked : Chains → List Stretch
+stretches_walked c = sweep (stretch_walked c) c.aggregates (replicate 16 no_stretch)
 
 unfoldable pub roster_from : Chains → Walked → Roster
 roster_from c w =
@@ -44,6 +44,5 @@ roster_from c w =
       kinds = c.kinds;
       chained = w.walk.met;
       members = w.walk.members;
-      starts = w.stretches.starts;
-      counts = w.stretches.counts;
+      stretches = w.stretches;
     }

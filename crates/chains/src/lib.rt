@@ -6,18 +6,20 @@ pub mod visits;
 
 ghost use Rattle.std.specs.Prelude.{◌≡◌, ◌&&◌, ◌≤◌, leb};
 ghost use Rattle.trace.specs.Sweeps.{every};
+ghost use Rattle.kinds.specs.Kinds.{is_semi_scheduled};
 ghost use Rattle.chains.specs.Rules.{next_at, head_at, ends_at, scheduled_at, indices_in};
 
-use plants::{Lengths, wide};
+use kinds::Kind;
+use plants::Lengths;
 
-// A unit's index is its number less one; 0 ends a chain. Entries past the counts are 0.
-#[derive(Clone, Copy)]
+// A unit's index is its number less one; 0 ends a chain. Entries past the counts are no kind and 0.
+#[derive(Clone, Copy, Debug, PartialEq, Eq, Hash)]
 pub struct Chains {
     pub units: usize,
     pub aggregates: usize,
     pub small: Lengths,
     pub large: Lengths,
-    pub kinds: [u8; 64],
+    pub kinds: [Option<Kind>; 64],
     pub next: [u8; 64],
     pub heads: [u8; 16],
 }
@@ -25,41 +27,31 @@ pub struct Chains {
 fn next_in(next: u8, units: usize) -> bool
     ensures { result ≡ leb next units }
 {
-    wide(next) <= units
+    usize::from(next) <= units
 }
 
 fn nexts_in(chains: Chains) -> bool
     requires { chains.units ≤ 64 }
     ensures { result ≡ every (next_at chains.units chains.next) chains.units }
 {
-    let units = chains.units;
-    let mut ok = true;
-    let mut i = 0;
-    while i < units {
-        ok &= next_in(chains.next[i], units);
-        i += 1;
-    }
-    ok
+    chains.next[..chains.units]
+        .iter()
+        .all(|next| next_in(*next, chains.units))
 }
 
 fn head_in(head: u8, units: usize) -> bool
     ensures { result ≡ (leb 1 head && leb head units) }
 {
-    (1 <= head) & next_in(head, units)
+    1 <= head && next_in(head, units)
 }
 
 fn heads_in(chains: Chains) -> bool
     requires { chains.aggregates ≤ 16 }
     ensures { result ≡ every (head_at chains.units chains.heads) chains.aggregates }
 {
-    let count = chains.aggregates;
-    let mut ok = true;
-    let mut j = 0;
-    while j < count {
-        ok &= head_in(chains.heads[j], chains.units);
-        j += 1;
-    }
-    ok
+    chains.heads[..chains.aggregates]
+        .iter()
+        .all(|head| head_in(*head, chains.units))
 }
 
 #[tactic(auto, unfolding(crate::specs::Rules::indices_in))]
@@ -67,7 +59,7 @@ pub fn indices_in(chains: Chains) -> bool
     requires { (chains.units ≤ 64) × (chains.aggregates ≤ 16) }
     ensures { result ≡ indices_in chains }
 {
-    nexts_in(chains) & heads_in(chains)
+    nexts_in(chains) && heads_in(chains)
 }
 
 // Every unit that no chain met has next 0.
@@ -75,14 +67,13 @@ pub fn rest_ends(chains: Chains, met: [bool; 64]) -> bool
     requires { chains.units ≤ 64 }
     ensures { result ≡ every (ends_at met chains.next) chains.units }
 {
-    let count = chains.units;
-    let mut ok = true;
-    let mut i = 0;
-    while i < count {
-        ok &= met[i] | (chains.next[i] == 0);
-        i += 1;
-    }
-    ok
+    (0..chains.units).all(|i| met[i] | (chains.next[i] == 0))
+}
+
+fn is_semi_scheduled(kind: Option<Kind>) -> bool
+    ensures { result ≡ is_semi_scheduled kind }
+{
+    matches!(kind, Some(Kind::SemiScheduled))
 }
 
 // No unit that a chain met is semi-scheduled.
@@ -90,12 +81,5 @@ pub fn members_scheduled(chains: Chains, met: [bool; 64]) -> bool
     requires { chains.units ≤ 64 }
     ensures { result ≡ every (scheduled_at met chains.kinds) chains.units }
 {
-    let count = chains.units;
-    let mut ok = true;
-    let mut i = 0;
-    while i < count {
-        ok &= !(met[i] & (chains.kinds[i] == 4));
-        i += 1;
-    }
-    ok
+    (0..chains.units).all(|i| !(met[i] & is_semi_scheduled(chains.kinds[i])))
 }

@@ -4,18 +4,19 @@ use mathlib.Core.Bool.{Bool, true, false, cond}
 use mathlib.Core.List.{List, [], ◌∷◌, map}
 use Prim.Native.Nat.{ℕ, suc, ◌+◌}
 use native.Mathlib.Omega.{arith}
-use Rattle.telemetry.specs.declared.Line.{Line}
-use Rattle.telemetry.specs.declared.Line.TheVariants.{Readable, Unreadable}
+use Rattle.std.specs.Prelude.{Option, Some, None, is_some}
+use Rattle.kinds.specs.declared.Kind.{Kind}
+use Rattle.telemetry.specs.declared.Fields.{Fields}
 use Rattle.marks.specs.Assessments.{without}
 use Rattle.marks.specs.declared.Kept.{Kept}
 use Rattle.marks.specs.declared.Mark.TheVariants.{Blank}
 use Rattle.marks.specs.declared.Sight.{Sight}
 use Rattle.aggregates.specs.Aggregates.{add_unreadable, no_sums, sums_assessment}
-use Rattle.aggregates.specs.Views.{readable_view, unreadable_view, line_view, view_of, flags_with, add_readable_view, add_view, add_views}
+use Rattle.aggregates.specs.Views.{line_view, view_of, flags_with, add_readable_view, add_view, add_views}
 use Rattle.aggregates.specs.declared.Sums.{Sums}
 use Rattle.aggregates.specs.declared.View.{View}
-use Rattle.aggregates.proofs.Views.{view-readable, view-unreadable, add-views}
-use Rattle.passes.specs.Passes.{is_readable, looked_at, pass_over, whole, early}
+use Rattle.aggregates.proofs.Views.{add-views}
+use Rattle.passes.specs.Passes.{is_readable, looked_at, pass_over, whole}
 use Rattle.passes.specs.Seen.{looked_in, pass_from}
 use Rattle.passes.specs.declared.Pass.{Pass}
 
@@ -24,31 +25,28 @@ use Rattle.passes.specs.declared.Pass.{Pass}
 abbrev all_read : Sums → Bool
 all_read s = s.flags.readable
 
-module _ (s : Sums) (v : View) where
-  pub unreadable-found : v.readable ≡ false → all_read (add_view s v) ≡ false
-  unfolding add_unreadable
-  unreadable-found e = ap all_read (view-unreadable s v e)
+unreadable-found : (s : Sums) → all_read (add_view s None) ≡ false
+unfolding add_view add_unreadable
+unreadable-found s = refl
 
-  readable-found : v.readable ≡ true → all_read (add_view s v) ≡ all_read s
-  unfolding add_readable_view flags_with
-  readable-found e = ap all_read (view-readable s v e)
+readable-found : (s : Sums) (v : View) → all_read (add_view s (Some v)) ≡ all_read s
+unfolding add_view add_readable_view flags_with
+readable-found s v = refl
 
-  pub found-is : all_read s ≡ true → all_read (add_view s v) ≡ v.readable
-  found-is r = go v.readable refl
-    where
-      go : (b : Bool) → v.readable ≡ b → all_read (add_view s v) ≡ b
-      go true e = readable-found e ∙ r
-      go false e = unreadable-found e
+found-is : (s : Sums) (v : Option View) → all_read s ≡ true → all_read (add_view s v) ≡ is_some v
+found-is s (Some v) r = readable-found s v ∙ r
+found-is s None r = unreadable-found s
 
-  -- an unreadable line is not forgotten
-  found-stays : all_read s ≡ false → all_read (add_view s v) ≡ false
-  found-stays r = go v.readable refl
-    where
-      go : (b : Bool) → v.readable ≡ b → all_read (add_view s v) ≡ false
-      go true e = readable-found e ∙ r
-      go false e = unreadable-found e
+-- an unreadable line is not forgotten
+pub unreadable-last : (s : Sums) (v : Option View) → is_some v ≡ false → all_read (add_view s v) ≡ false
+unreadable-last s None e = unreadable-found s
+unreadable-last s (Some v) e = cc
 
-pub views-stay : (s : Sums) (vs : List View) → s.flags.readable ≡ false → (add_views s vs).flags.readable ≡ false
+found-stays : (s : Sums) (v : Option View) → all_read s ≡ false → all_read (add_view s v) ≡ false
+found-stays s (Some v) r = readable-found s v ∙ r
+found-stays s None r = unreadable-found s
+
+pub views-stay : (s : Sums) (vs : List (Option View)) → s.flags.readable ≡ false → (add_views s vs).flags.readable ≡ false
 views-stay s [] e = e
 views-stay s (v ∷ vs) e = views-stay (add_view s v) vs (found-stays s v e)
 
@@ -56,29 +54,25 @@ pub unreadable-blank : (s : Sums) → s.flags.readable ≡ false → sums_assess
 unfolding sums_assessment
 unreadable-blank s e = rw e
 
-pub early-whole : (s : Sums) (looked : ℕ) → s.flags.readable ≡ false → early looked ≡ whole s looked
-unfolding early whole
-early-whole s looked e = rw (unreadable-blank s e)
-
 -- ---- a pass from its sums and count so far over the members that are left, of which it looks at none once a line was unreadable
 
 -- whether every line so far was readable, the sums over all, and how many were looked at, so far and of the others
 abbrev ran : Bool → Sums → ℕ → ℕ → Pass
 ran readable sums looked more = record { assessment = sums_assessment sums; looked = looked + cond readable more 0 }
 
-unfoldable pub run_from : Sums → ℕ → List View → Pass
+unfoldable pub run_from : Sums → ℕ → List (Option View) → Pass
 run_from s looked vs = ran (all_read s) (add_views s vs) looked (looked_in vs)
 
-pub run-start : (vs : List View) → run_from no_sums 0 vs ≡ pass_from vs
+pub run-start : (vs : List (Option View)) → run_from no_sums 0 vs ≡ pass_from vs
 unfolding run_from pass_from
 run-start vs = let e : 0 + looked_in vs ≡ looked_in vs = omega arith in rw e
 
-pub run_more : (s : Sums) (looked : ℕ) (v : View) (vs : List View) → s.flags.readable ≡ true
+pub run_more : (s : Sums) (looked : ℕ) (v : Option View) (vs : List (Option View)) → s.flags.readable ≡ true
     → run_from s looked (v ∷ vs) ≡ run_from (add_view s v) (looked + 1) vs
 unfolding run_from looked_in
 run_more s looked v vs r =
     ap (λ (b : Bool). ran b all looked (looked_in (v ∷ vs))) r
-    ∙ go v.readable
+    ∙ go (is_some v)
     ∙ ap (λ (b : Bool). ran b all (looked + 1) (looked_in vs)) (sym (found-is s v r))
   where
     all : Sums
@@ -99,7 +93,7 @@ run_end s looked = go (all_read s)
     go true = rw n
     go false = rw n
 
-pub run-stopped : (s : Sums) (looked : ℕ) (vs : List View) → s.flags.readable ≡ false → run_from s looked vs ≡ whole s looked
+pub run-stopped : (s : Sums) (looked : ℕ) (vs : List (Option View)) → s.flags.readable ≡ false → run_from s looked vs ≡ whole s looked
 unfolding run_from whole
 run-stopped s looked vs e =
     let n : looked + 0 ≡ looked = omega arith in
@@ -107,12 +101,11 @@ run-stopped s looked vs e =
 
 -- ---- of members by their views, it is the pass over the members
 
-line_read : (kind : ℕ) (l : Line) (k : Kept) → (line_view kind l k).readable ≡ is_readable l
-unfolding readable_view unreadable_view
-line_read kind (Readable f) k = refl
-line_read kind Unreadable k = refl
+line_read : (kind : Option Kind) (l : Option Fields) (k : Option Kept) → is_some (line_view kind l k) ≡ is_readable l
+line_read kind (Some f) k = refl
+line_read kind None k = refl
 
-pub view-read : (v : Sight) → (view_of v).readable ≡ is_readable v.line
+pub view-read : (v : Sight) → is_some (view_of v) ≡ is_readable v.line
 unfolding view_of
 view-read v = line_read v.kind v.line v.kept
 

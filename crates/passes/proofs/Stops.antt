@@ -12,7 +12,7 @@ use Rattle.aggregates.specs.Views.{view_of, add_view}
 use Rattle.aggregates.specs.declared.Sums.{Sums}
 use Rattle.aggregates.proofs.Views.{add-views}
 use Rattle.passes.specs.Passes.{is_readable, looked_at, pass_over, whole, early}
-use Rattle.passes.proofs.Looks.{view-read, unreadable-found, views-stay, unreadable-blank}
+use Rattle.passes.proofs.Looks.{view-read, unreadable-last, views-stay, unreadable-blank}
 
 abbrev pub all_readable : List Sight → Bool
 all_readable [] = true
@@ -51,7 +51,7 @@ module _ (v : Sight) (after : List Sight) (u : is_readable v.line ≡ false) whe
   unreadable-sums : (s : Sums) (before : List Sight) → (add_members s (before ++ (v ∷ after))).flags.readable ≡ false
   unreadable-sums s [] =
       rw (sym (add-views s (v ∷ after)))
-      (views-stay (add_view s (view_of v)) (map view_of after) (unreadable-found s (view_of v) (view-read v ∙ u)))
+      (views-stay (add_view s (view_of v)) (map view_of after) (unreadable-last s (view_of v) (view-read v ∙ u)))
   unreadable-sums s (b ∷ bs) = unreadable-sums (add_member s b) bs
 
 -- ---- the request's sentences

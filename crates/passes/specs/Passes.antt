@@ -1,7 +1,6 @@
 -- A pass over an aggregate's members, in the order of its chain (02, 2026-03).
-use Rattle.std.specs.Prelude.{Bool, true, false, cond, List, [], ◌∷◌, ℕ, suc}
-use Rattle.telemetry.specs.declared.Line.{Line}
-use Rattle.telemetry.specs.declared.Line.TheVariants.{Readable, Unreadable}
+use Rattle.std.specs.Prelude.{Bool, true, false, cond, List, [], ◌∷◌, ℕ, suc, Option, Some, None}
+use Rattle.telemetry.specs.declared.Fields.{Fields}
 use Rattle.marks.specs.Assessments.{without}
 use Rattle.marks.specs.declared.Mark.TheVariants.{Blank}
 use Rattle.marks.specs.declared.Sight.{Sight}
@@ -10,9 +9,9 @@ use Rattle.aggregates.specs.declared.Sums.{Sums}
 use Rattle.passes.specs.declared.Pass.{Pass}
 
 -- of any quality and conformance mode, and whatever is kept
-abbrev pub is_readable : Line → Bool
-is_readable (Readable f) = true
-is_readable Unreadable = false
+abbrev pub is_readable : Option Fields → Bool
+is_readable (Some f) = true
+is_readable None = false
 
 -- "the first unreadable one's place in the chain, or the length of the chain if there is none"
 unfoldable pub looked_at : List Sight → ℕ

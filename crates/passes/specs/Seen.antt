@@ -1,44 +1,44 @@
 -- What is seen of the units, in a list by place, as the sums take it, and the passes over every aggregate's stretch of the members. They
 -- promise their answer for the members as they stand in this list; `pass_of` of `proofs/Looks.antt` has that it is the pass over the members
 -- themselves where the list has their views.
-use Rattle.std.specs.Prelude.{◌≡◌, true, cond, List, [], ◌∷◌, map, ℕ, suc, ◌<◌, get_or, replicate}
+use Rattle.std.specs.Prelude.{◌≡◌, true, cond, List, [], ◌∷◌, map, ℕ, suc, ◌<◌, get_or, replicate, Option, None, IfSome, is_some}
 use Rattle.trace.specs.Sweeps.{sweep}
 use Rattle.plants.specs.Rosters.{stretch_of, roster_sound}
 use Rattle.plants.specs.declared.Roster.{Roster}
 use Rattle.marks.specs.Assessments.{without}
 use Rattle.marks.specs.declared.Mark.TheVariants.{Off}
 use Rattle.aggregates.specs.Aggregates.{no_sums, sums_assessment}
-use Rattle.aggregates.specs.Views.{no_view, add_views, SmallView}
+use Rattle.aggregates.specs.Views.{add_views, SmallView}
 use Rattle.aggregates.specs.declared.View.{View}
 use Rattle.passes.specs.declared.Pass.{Pass}
 
--- zeros stand past a list's end in the checker's account of an array: no index is ever there
-unfoldable pub seen_at : List View → ℕ → View
-seen_at seen i = get_or seen i no_view
+-- nothing stands past a list's end in the checker's account of an array: no index is ever there
+unfoldable pub seen_at : List (Option View) → ℕ → Option View
+seen_at seen i = get_or seen i None
 
 -- the members of aggregate j, counted from 0, as they are seen, in the order of its chain
-unfoldable pub members_seen : Roster → List View → ℕ → List View
+unfoldable pub members_seen : Roster → List (Option View) → ℕ → List (Option View)
 members_seen roster seen j = map (seen_at seen) (stretch_of roster j)
 
 -- indices in range, and small numbers in what is seen
-pub record Seen (roster : Roster) (seen : List View) : Type 0 where
+pub record Seen (roster : Roster) (seen : List (Option View)) : Type 0 where
   pub sound : roster_sound roster ≡ true
-  pub small : (i : ℕ) → i < roster.units → SmallView (seen_at seen i)
+  pub small : (i : ℕ) → i < roster.units → IfSome (seen_at seen i) (λ view. SmallView view)
 
 -- `looked_at` and `pass_over`, by what is seen
-unfoldable pub looked_in : List View → ℕ
+unfoldable pub looked_in : List (Option View) → ℕ
 looked_in [] = 0
-looked_in (v ∷ vs) = cond v.readable (suc (looked_in vs)) 1
+looked_in (v ∷ vs) = cond (is_some v) (suc (looked_in vs)) 1
 
-unfoldable pub pass_from : List View → Pass
+unfoldable pub pass_from : List (Option View) → Pass
 pass_from views = record { assessment = sums_assessment (add_views no_sums views); looked = looked_in views }
 
 abbrev pub no_pass : Pass
 no_pass = record { assessment = without Off; looked = 0 }
 
-abbrev pub pass_at : Roster → List View → ℕ → Pass
+abbrev pub pass_at : Roster → List (Option View) → ℕ → Pass
 pass_at roster seen j = pass_from (members_seen roster seen j)
 
 -- of each aggregate, and `no_pass` past the last
-unfoldable pub passes_of : Roster → List View → List Pass
+unfoldable pub passes_of : Roster → List (Option View) → List Pass
 passes_of roster seen = sweep (pass_at roster seen) roster.aggregates (replicate 16 no_pass)

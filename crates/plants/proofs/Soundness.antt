@@ -1,5 +1,5 @@
 -- What a sound roster gives at each index. Assumes nothing.
-use mathlib.Core.Path.{◌≡◌, refl, sym, ◌∙◌}
+use mathlib.Core.Path.{◌≡◌, refl}
 use mathlib.Core.Bool.{Bool, true, false, ◌&&◌}
 use Prim.Native.Nat.{ℕ, ◌+◌, ◌≤◌, ◌<◌}
 use borrow.Author.Tests.{leb-true, ltb-true, le-leb}
@@ -8,7 +8,7 @@ use lib.ListN.{get_or}
 use Rattle.trace.proofs.Sweeps.{every-at}
 use Rattle.trace.proofs.Tests.{and_l, and_r}
 use Rattle.plants.specs.declared.Roster.{Roster}
-use Rattle.plants.specs.Rosters.{start_of, count_of, no_roster, counts_in, kinds_known, place_at, places_in, stretch_at, stretches_in, roster_sound}
+use Rattle.plants.specs.Rosters.{start_of, count_of, no_roster, counts_in, kinds_known, place_at, places_in, ends_at, stretches_in, roster_sound}
 
 -- ---- counts
 
@@ -29,31 +29,12 @@ module _ (units aggregates : ℕ) where
     pub counts-aggregates : aggregates ≤ 16
     counts-aggregates = leb-true aggregates 16 (and_r (leb 1 units && leb units 64) (leb aggregates 16) e)
 
-  -- the same of a test that the code has made
-  module _ (t : Bool) (e : t ≡ counts_in units aggregates) (taken : t ≡ true) where
-    pub tested-units : units ≤ 64
-    tested-units = counts-units (sym e ∙ taken)
-
-    pub tested-aggregates : aggregates ≤ 16
-    tested-aggregates = counts-aggregates (sym e ∙ taken)
-
 -- ---- a sound roster
 
 pub sound-by : (r : Roster) → counts_in r.units r.aggregates ≡ true → kinds_known r.kinds r.units ≡ true
-    → places_in r.members r.units ≡ true → stretches_in r.starts r.counts r.aggregates ≡ true → roster_sound r ≡ true
+    → places_in r.members r.units ≡ true → stretches_in r.stretches r.aggregates ≡ true → roster_sound r ≡ true
 unfolding roster_sound
 sound-by r counts kinds places stretches = rw (counts, kinds, places, stretches)
-
-module _ (r : Roster) (t : Bool) (e : t ≡ counts_in r.units r.aggregates) where
-  pub sound-tested : (kinds places stretches : Bool) → t ≡ true → kinds ≡ kinds_known r.kinds r.units
-      → places ≡ places_in r.members r.units → stretches ≡ stretches_in r.starts r.counts r.aggregates
-      → (kinds && (places && stretches)) ≡ roster_sound r
-  unfolding roster_sound
-  sound-tested kinds places stretches taken k p s = rw (sym e ∙ taken, k, p, s)
-
-  pub unsound-tested : t ≡ false → false ≡ roster_sound r
-  unfolding roster_sound
-  unsound-tested left = rw (sym e ∙ left)
 
 pub no-roster-unsound : roster_sound no_roster ≡ false
 unfolding roster_sound no_roster
@@ -70,7 +51,7 @@ module _ (r : Roster) (sound : roster_sound r ≡ true) where
   places = places_in r.members r.units
 
   abbrev stretches : Bool
-  stretches = stretches_in r.starts r.counts r.aggregates
+  stretches = stretches_in r.stretches r.aggregates
 
   pub sound-counts : counts_in r.units r.aggregates ≡ true
   unfolding roster_sound
@@ -99,4 +80,4 @@ module _ (r : Roster) (sound : roster_sound r ≡ true) where
 
   pub stretch-inside : (j : ℕ) → j < r.aggregates → start_of r j + count_of r j ≤ 64
   unfolding stretches_in
-  stretch-inside j l = leb-true _ _ (every-at (stretch_at r.starts r.counts) r.aggregates (and_r places stretches inside) j l)
+  stretch-inside j l = leb-true _ _ (every-at (ends_at r.stretches) r.aggregates (and_r places stretches inside) j l)

@@ -1,38 +1,31 @@
--- A stretch, one entry at a time, with the place and the end as a loop has them. Assumes nothing.
+-- The stretch of an aggregate: as a slice of the list of members, how long, and that every member is a unit. Assumes nothing.
 use mathlib.Core.Path.{◌≡◌, refl, ap}
 use mathlib.Core.Bool.{Bool, true, false, ◌||◌}
 use mathlib.Core.List.{List, [], ◌∷◌}
-use Prim.Native.Nat.{ℕ, zero, suc, ◌+◌, ◌-◌, ◌≤◌, ◌<◌}
+use Prim.Native.Nat.{ℕ, zero, suc, ◌+◌, ◌≤◌, ◌<◌}
 use native.Mathlib.Omega.{arith}
-use borrow.Author.Tests.{eqb-true}
+use borrow.Author.Tests.{eqb-true, eq-eqb}
 use lib.Dec.{eqb}
-use lib.ListN.{length, get_or}
+use lib.ListN.{length, get_or, take, drop}
+use Rattle.std.proofs.Common.{add-one}
+use Rattle.std.proofs.Math.Seq.{drop-cons}
 use Rattle.plants.specs.Plants.{elem}
 use Rattle.plants.specs.Rosters.{start_of, count_of, entries, stretch_of, roster_sound}
 use Rattle.plants.specs.declared.Roster.{Roster}
 use Rattle.plants.proofs.Soundness.{place_inside, stretch-inside}
-
--- the entries from a place up to an end
-abbrev pub part : List ℕ → ℕ → ℕ → List ℕ
-part xs k end = entries xs k (end - k)
 
 pub length-entries : (xs : List ℕ) (start count : ℕ) → length (entries xs start count) ≡ count
 unfolding entries
 length-entries xs start zero = refl
 length-entries xs start (suc count) = ap suc (length-entries xs (start + 1) count)
 
-module _ (xs : List ℕ) (k end : ℕ) where
-  pub part_end : end ≤ k → part xs k end ≡ []
-  unfolding entries
-  part_end h = let none : end - k ≡ 0 = omega arith in rw none
-
-  pub part-more : k < end → part xs k end ≡ get_or xs k 0 ∷ part xs (k + 1) end
-  unfolding entries
-  part-more h = let one : end - k ≡ suc (end - (k + 1)) = omega arith in rw one
-
-pub stretch-part : (r : Roster) (j : ℕ) → part r.members (start_of r j) (start_of r j + count_of r j) ≡ stretch_of r j
-unfolding stretch_of
-stretch-part r j = let all : start_of r j + count_of r j - start_of r j ≡ count_of r j = omega arith in rw all
+-- as a slice
+pub slice-entries : (xs : List ℕ) (start count : ℕ) → start + count ≤ length xs → take count (drop start xs) ≡ entries xs start count
+unfolding entries
+slice-entries xs start zero h = refl
+slice-entries xs start (suc count) h =
+    rw (drop-cons xs start 0 (omega arith))
+    (ap (λ (ys : List ℕ). get_or xs start 0 ∷ ys) (rw add-one (slice-entries xs (suc start) count (omega arith))))
 
 -- at most 64 members
 pub stretch-few : (r : Roster) → roster_sound r ≡ true → (j : ℕ) → j < r.aggregates → length (stretch_of r j) ≤ 64
@@ -57,3 +50,18 @@ unfolding stretch_of
 member-inside r sound j l u e =
     entries-inside r.members r.units (start_of r j) (count_of r j) u
     (λ k h. place_inside r sound k (let s = stretch-inside r sound j l in omega arith)) e
+
+-- and so is what stands at a place of the stretch
+
+or_right : (a b : Bool) → b ≡ true → (a || b) ≡ true
+or_right true b e = refl
+or_right false b e = e
+
+elem-at : (xs : List ℕ) (i : ℕ) → i < length xs → elem (get_or xs i 0) xs ≡ true
+elem-at [] i h = absurd (omega arith)
+elem-at (x ∷ xs) zero h = rw (eq-eqb x x refl)
+elem-at (x ∷ xs) (suc i) h = or_right (eqb (get_or xs i 0) x) _ (elem-at xs i (omega arith))
+
+pub stretch-at : (r : Roster) → roster_sound r ≡ true → (j : ℕ) → j < r.aggregates → (i : ℕ) → i < length (stretch_of r j)
+    → get_or (stretch_of r j) i 0 < r.units
+stretch-at r sound j l i h = member-inside r sound j l _ (elem-at (stretch_of r j) i h)

@@ -1,16 +1,26 @@
 -- A plant as a monitor holds it, "each aggregate's members as one stretch of a flat list in chain order, with a start and a count per
 -- aggregate" (02, 2026-08), and the test that it passes whoever made it. That it is the plant of the register's chains is promised by `load`.
-use Rattle.std.specs.Prelude.{Bool, false, ◌&&◌, List, [], ◌∷◌, ℕ, zero, suc, ◌+◌, leb, ltb, get_or, replicate}
+use Rattle.std.specs.Prelude.{Bool, false, ◌&&◌, List, [], ◌∷◌, ℕ, zero, suc, ◌+◌, leb, ltb, get_or, replicate, Option, None}
+use Rattle.std.specs.Option.{is_some}
+use Rattle.kinds.specs.declared.Kind.{Kind}
 use Rattle.trace.specs.Sweeps.{every}
 use Rattle.plants.specs.Plants.{Plant}
 use Rattle.plants.specs.declared.Lengths.{Lengths}
 use Rattle.plants.specs.declared.Roster.{Roster}
+use Rattle.plants.specs.declared.Stretch.{Stretch}
+
+-- past the aggregates
+abbrev pub no_stretch : Stretch
+no_stretch = record { start = 0; count = 0 }
+
+abbrev pub stretch_at : List Stretch → ℕ → Stretch
+stretch_at stretches j = get_or stretches j no_stretch
 
 abbrev pub start_of : Roster → ℕ → ℕ
-start_of r j = get_or r.starts j 0
+start_of r j = (stretch_at r.stretches j).start
 
 abbrev pub count_of : Roster → ℕ → ℕ
-count_of r j = get_or r.counts j 0
+count_of r j = (stretch_at r.stretches j).count
 
 -- so many entries of a list, from a place on
 unfoldable pub entries : List ℕ → ℕ → ℕ → List ℕ
@@ -45,11 +55,10 @@ no_roster =
       aggregates = 0;
       small = no_lengths;
       large = no_lengths;
-      kinds = replicate 64 0;
+      kinds = replicate 64 None;
       chained = replicate 64 false;
       members = replicate 64 0;
-      starts = replicate 16 0;
-      counts = replicate 16 0;
+      stretches = replicate 16 no_stretch;
     }
 
 -- ---- the test
@@ -59,13 +68,10 @@ abbrev pub counts_in : ℕ → ℕ → Bool
 counts_in units aggregates = (leb 1 units && leb units 64) && leb aggregates 16
 
 -- kinds 1 to 4, which is part of register refusal 4 too
-abbrev pub kind_known : ℕ → Bool
-kind_known kind = leb 1 kind && leb kind 4
+abbrev pub kind_at : List (Option Kind) → ℕ → Bool
+kind_at kinds i = is_some (get_or kinds i None)
 
-abbrev pub kind_at : List ℕ → ℕ → Bool
-kind_at kinds i = kind_known (get_or kinds i 0)
-
-unfoldable pub kinds_known : List ℕ → ℕ → Bool
+unfoldable pub kinds_known : List (Option Kind) → ℕ → Bool
 kinds_known kinds units = every (kind_at kinds) units
 
 -- every entry of the list is the place of a unit
@@ -76,17 +82,17 @@ unfoldable pub places_in : List ℕ → ℕ → Bool
 places_in members units = every (place_at members units) 64
 
 -- a stretch ends within the list
-abbrev pub stretch_in : ℕ → ℕ → Bool
-stretch_in start count = leb (start + count) 64
+abbrev pub stretch_in : Stretch → Bool
+stretch_in s = leb (s.start + s.count) 64
 
-abbrev pub stretch_at : List ℕ → List ℕ → ℕ → Bool
-stretch_at starts counts j = stretch_in (get_or starts j 0) (get_or counts j 0)
+abbrev pub ends_at : List Stretch → ℕ → Bool
+ends_at stretches j = stretch_in (stretch_at stretches j)
 
-unfoldable pub stretches_in : List ℕ → List ℕ → ℕ → Bool
-stretches_in starts counts aggregates = every (stretch_at starts counts) aggregates
+unfoldable pub stretches_in : List Stretch → ℕ → Bool
+stretches_in stretches aggregates = every (ends_at stretches) aggregates
 
 unfoldable pub roster_sound : Roster → Bool
 roster_sound r =
     counts_in r.units r.aggregates
     && (kinds_known r.kinds r.units
-    && (places_in r.members r.units && stretches_in r.starts r.counts r.aggregates))
+    && (places_in r.members r.units && stretches_in r.stretches r.aggregates))

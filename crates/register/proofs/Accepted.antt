@@ -6,7 +6,7 @@ use mathlib.Core.List.{List}
 use Prim.Native.Nat.{ℕ, zero, suc, ◌+◌, ◌≤◌, ◌<◌}
 use native.Mathlib.Omega.{arith}
 use borrow.Author.Tests.{leb-true, leb-false, le-leb, eqb-true, eq-eqb}
-use lib.Dec.{leb, eqb}
+use lib.Dec.{leb}
 use lib.ListN.{length, get_or, replicate, length-map, length-replicate}
 use Rattle.trace.specs.Sweeps.{sweep, records}
 use Rattle.trace.proofs.Sweeps.{below_or_not, every-at, every-all, length-sweep, get_or-sweep, get_or-sweep-past, replicate-same}
@@ -22,11 +22,16 @@ use Rattle.chains.proofs.Steps.{chain-whole, chain_same, units_in}
 use Rattle.chains.proofs.Walks.{members-units, all-units}
 use Rattle.chains.proofs.Members.{times-one, times-two, times-somewhere, times-at-most, once-length}
 use Rattle.chains.proofs.Layouts.{side_by_side, laid-sound}
-use Rattle.register.specs.declared.Answer.TheVariants.{Accepted}
+use Rattle.register.specs.declared.RegisterRefusal.{RegisterRefusal}
+use Rattle.register.specs.declared.RegisterRefusal.TheVariants.{Length, Counts, RunLengths, Record, Index, MetTwice, Unmet, SemiScheduledMember}
+use Rattle.std.specs.Prelude.{Option, Some, None, Result, Ok}
+use Rattle.kinds.specs.declared.Kind.{Kind}
+use Rattle.kinds.specs.declared.Kind.TheVariants.{Generating, Load, Bidirectional, SemiScheduled}
+use Rattle.kinds.specs.Kinds.{is_semi_scheduled}
 use Rattle.register.specs.declared.Registered.{Registered}
-use Rattle.register.specs.Fields.{unit_count, aggregate_count, lengths_at, field_at, heads_place, kinds_of, nexts_of, heads_of, fields_of}
+use Rattle.register.specs.Fields.{unit_count, aggregate_count, lengths_at, field_at, heads_place, kind_in, kinds_of, nexts_of, heads_of, fields_of}
 use Rattle.register.specs.Rules.{long_enough, whole_length, rising, header_spare, units_spare, heads_spare}
-use Rattle.register.specs.Registers.{unless, refused_by, accepted_as, lengths_rise, fields_known, chained_from, records_from, registered_of}
+use Rattle.register.specs.Registers.{unless, accepted_as, lengths_rise, fields_known, chained_from, records_from, registered_of}
 
 -- ---- the rules that it has passed
 
@@ -41,29 +46,27 @@ pub record Passed (bytes : List ℕ) : Type 0 where
   pub ends : rest_ends (fields_of bytes) ≡ true
   pub scheduled : members_scheduled (fields_of bytes) ≡ true
 
--- a choice that answers Accepted took its test
-unless-passed : (t : Bool) (number visits : ℕ) (rest : Registered) → (unless t number rest).answer ≡ Accepted visits
-    → (t ≡ true) × (rest.answer ≡ Accepted visits)
-unfolding refused_by
-unless-passed true number visits rest e = (refl, e)
-unless-passed false number visits rest e = absurd (let z : ◌≡◌ {A = ℕ} 0 1 = cc in omega arith)
+unless-passed : (t : Bool) (k : RegisterRefusal) (r : Registered) (rest : Result Registered RegisterRefusal) → unless t k rest ≡ Ok r
+    → (t ≡ true) × (rest ≡ Ok r)
+unless-passed true k r rest e = (refl, e)
+unless-passed false k r rest e = cc
 
-module _ (bytes : List ℕ) (visits : ℕ) (accepted : (registered_of bytes).answer ≡ Accepted visits) where
+module _ (bytes : List ℕ) (r : Registered) (accepted : registered_of bytes ≡ Ok r) where
   abbrev c : Chains
   c = fields_of bytes
 
   pub accepted-passed : Passed bytes
   unfolding registered_of records_from chained_from
   accepted-passed =
-      let long = unless-passed (long_enough bytes) 1 visits _ accepted in
-      let counts = unless-passed (counts_in (unit_count bytes) (aggregate_count bytes)) 2 visits _ long.1 in
-      let whole = unless-passed (whole_length bytes) 1 visits _ counts.1 in
-      let rise = unless-passed (lengths_rise bytes) 3 visits _ whole.1 in
-      let known = unless-passed (fields_known bytes) 4 visits _ rise.1 in
-      let inside = unless-passed (indices_in c) 5 visits _ known.1 in
-      let once = unless-passed (met_once c) 6 visits _ inside.1 in
-      let ends = unless-passed (rest_ends c) 7 visits _ once.1 in
-      let scheduled = unless-passed (members_scheduled c) 30 visits (accepted_as c) ends.1 in
+      let long = unless-passed (long_enough bytes) Length r _ accepted in
+      let counts = unless-passed (counts_in (unit_count bytes) (aggregate_count bytes)) Counts r _ long.1 in
+      let whole = unless-passed (whole_length bytes) Length r _ counts.1 in
+      let rise = unless-passed (lengths_rise bytes) RunLengths r _ whole.1 in
+      let known = unless-passed (fields_known bytes) Record r _ rise.1 in
+      let inside = unless-passed (indices_in c) Index r _ known.1 in
+      let once = unless-passed (met_once c) MetTwice r _ inside.1 in
+      let ends = unless-passed (rest_ends c) Unmet r _ once.1 in
+      let scheduled = unless-passed (members_scheduled c) SemiScheduledMember r _ ends.1 in
       record {
         long = long.0;
         counts = counts.0;
@@ -76,7 +79,7 @@ module _ (bytes : List ℕ) (visits : ℕ) (accepted : (registered_of bytes).ans
         scheduled = scheduled.0;
       }
 
-pub passed-accepted : (bytes : List ℕ) → Passed bytes → registered_of bytes ≡ accepted_as (fields_of bytes)
+pub passed-accepted : (bytes : List ℕ) → Passed bytes → registered_of bytes ≡ Ok (accepted_as (fields_of bytes))
 unfolding registered_of records_from chained_from
 passed-accepted bytes q = rw (q.long, q.counts, q.whole, q.rise, q.known, q.inside, q.once, q.ends, q.scheduled)
 
@@ -96,8 +99,8 @@ pub record Loaded (c : Chains) : Type 0 where
   pub heads : length c.heads ≡ 16
   pub headless : (j : ℕ) → c.aggregates ≤ j → get_or c.heads j 0 ≡ 0
 
-length-swept : (f : ℕ → ℕ) (k n : ℕ) → length (sweep f k (replicate n 0)) ≡ n
-length-swept f k n = length-sweep f k (replicate n 0) ∙ length-replicate n 0
+length-swept : {A : Type 0} (f : ℕ → A) (k n : ℕ) (d : A) → length (sweep f k (replicate n d)) ≡ n
+length-swept f k n d = length-sweep f k (replicate n d) ∙ length-replicate n d
 
 passed-loaded : (bytes : List ℕ) → Passed bytes → Loaded (fields_of bytes)
 unfolding fields_of kinds_of nexts_of heads_of lengths_rise fields_known
@@ -120,29 +123,36 @@ passed-loaded bytes q =
       scheduled = q.scheduled;
       small = and_l (rising (lengths_at bytes 2)) (rising (lengths_at bytes 5)) q.rise;
       large = and_r (rising (lengths_at bytes 2)) (rising (lengths_at bytes 5)) q.rise;
-      kinds = length-swept (field_at bytes 16) units 64;
-      next = length-swept (field_at bytes 17) units 64;
-      heads = length-swept (field_at bytes (heads_place bytes)) aggregates 16;
+      kinds = length-swept (kind_in bytes) units 64 None;
+      next = length-swept (field_at bytes 17) units 64 0;
+      heads = length-swept (field_at bytes (heads_place bytes)) aggregates 16 0;
       headless = λ j l.
           get_or-sweep-past (field_at bytes (heads_place bytes)) aggregates (replicate 16 0) 0 j l ∙ replicate-same 16 0 j;
     }
 
-module _ (bytes : List ℕ) (visits : ℕ) (accepted : (registered_of bytes).answer ≡ Accepted visits) where
+module _ (bytes : List ℕ) (r : Registered) (accepted : registered_of bytes ≡ Ok r) where
   passed : Passed bytes
-  passed = accepted-passed bytes visits accepted
+  passed = accepted-passed bytes r accepted
 
   pub accepted-loaded : Loaded (fields_of bytes)
   accepted-loaded = passed-loaded bytes passed
 
   -- what is returned lays the chains side by side, and passes the test of a roster
-  pub accepted-roster : (registered_of bytes).roster ≡ roster_of (fields_of bytes)
-  unfolding accepted_as
-  accepted-roster = ap (λ (r : Registered). r.roster) (passed-accepted bytes passed)
+  is : r ≡ accepted_as (fields_of bytes)
+  is = let f = passed-accepted bytes passed in cc
 
-  pub accepted-side : SideBySide (fields_of bytes) (registered_of bytes).roster
+  pub accepted-visits : r.visits ≡ length (all_members (fields_of bytes))
+  unfolding accepted_as
+  accepted-visits = ap (λ (x : Registered). x.visits) is
+
+  pub accepted-roster : r.roster ≡ roster_of (fields_of bytes)
+  unfolding accepted_as
+  accepted-roster = ap (λ (x : Registered). x.roster) is
+
+  pub accepted-side : SideBySide (fields_of bytes) r.roster
   accepted-side = rw accepted-roster (side_by_side (fields_of bytes) accepted-loaded.walkable accepted-loaded.headless)
 
-  pub accepted-sound : roster_sound (registered_of bytes).roster ≡ true
+  pub accepted-sound : roster_sound r.roster ≡ true
   accepted-sound =
       let l = accepted-loaded in
       rw accepted-roster (laid-sound (fields_of bytes) l.walkable l.once l.least l.known)
@@ -224,8 +234,15 @@ module _ (c : Chains) (walkable : Walkable c) where
 
 -- ---- refusal 30, whatever the marks: no chain has a unit of kind 4
 
+semi_scheduled-is : (kind : Option Kind) → is_semi_scheduled kind ≡ true → kind ≡ Some SemiScheduled
+semi_scheduled-is None e = absurd (false≢true e)
+semi_scheduled-is (Some Generating) e = absurd (false≢true e)
+semi_scheduled-is (Some Load) e = absurd (false≢true e)
+semi_scheduled-is (Some Bidirectional) e = absurd (false≢true e)
+semi_scheduled-is (Some SemiScheduled) e = refl
+
 abbrev pub Scheduled : Chains → Type 0
-Scheduled c = (i j : ℕ) → i < c.units → j < c.aggregates → 1 ≤ times_in (suc i) (members_of c j) → get_or c.kinds i 0 ≡ 4 → ⊥
+Scheduled c = (i j : ℕ) → i < c.units → j < c.aggregates → 1 ≤ times_in (suc i) (members_of c j) → get_or c.kinds i None ≡ Some SemiScheduled → ⊥
 
 module _ (c : Chains) (walkable : Walkable c) where
   pub rule-scheduled : members_scheduled c ≡ true → Scheduled c
@@ -238,15 +255,15 @@ module _ (c : Chains) (walkable : Walkable c) where
   unfolding members_scheduled
   scheduled-rule s =
       every-all (scheduled_at (chained_of c) c.kinds) c.units
-      (λ i l. go i l (get_or (chained_of c) i false) refl (eqb (get_or c.kinds i 0) 4) refl)
+      (λ i l. go i l (get_or (chained_of c) i false) refl (is_semi_scheduled (get_or c.kinds i None)) refl)
     where
       go : (i : ℕ) → i < c.units → (chained : Bool) → get_or (chained_of c) i false ≡ chained
-          → (four : Bool) → eqb (get_or c.kinds i 0) 4 ≡ four → not (chained && four) ≡ true
+          → (four : Bool) → is_semi_scheduled (get_or c.kinds i None) ≡ four → not (chained && four) ≡ true
       go i l false q four e = refl
       go i l true q false e = refl
       go i l true q true e =
           let found = marked-member c walkable i l q in
-          absurd (s i found.0 l found.1.0 found.1.1 (eqb-true _ _ e))
+          absurd (s i found.0 l found.1.0 found.1.1 (semi_scheduled-is _ e))
 
 -- ---- loaded chains
 

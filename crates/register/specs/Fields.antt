@@ -1,5 +1,7 @@
 -- Where each field of a register stands (01, "The register"). A unit's index is its number less one.
-use Rattle.std.specs.Prelude.{List, ℕ, ◌+◌, ◌*◌, get_or, replicate}
+use Rattle.std.specs.Prelude.{List, ℕ, ◌+◌, ◌*◌, get_or, replicate, Option, None}
+use Rattle.kinds.specs.Kinds.{kind_of}
+use Rattle.kinds.specs.declared.Kind.{Kind}
 use Rattle.trace.specs.Sweeps.{sweep}
 use Rattle.plants.specs.declared.Lengths.{Lengths}
 use Rattle.chains.specs.declared.Chains.{Chains}
@@ -32,8 +34,12 @@ heads_place bytes = 16 + 4 * unit_count bytes
 abbrev pub field_at : List ℕ → ℕ → ℕ → ℕ
 field_at bytes place i = byte_at bytes (place + 4 * i)
 
-unfoldable pub kinds_of : List ℕ → List ℕ
-kinds_of bytes = sweep (field_at bytes 16) (unit_count bytes) (replicate 64 0)
+-- the kind of record i, none where its number is not listed
+abbrev pub kind_in : List ℕ → ℕ → Option Kind
+kind_in bytes i = kind_of (field_at bytes 16 i)
+
+unfoldable pub kinds_of : List ℕ → List (Option Kind)
+kinds_of bytes = sweep (kind_in bytes) (unit_count bytes) (replicate 64 None)
 
 unfoldable pub nexts_of : List ℕ → List ℕ
 nexts_of bytes = sweep (field_at bytes 17) (unit_count bytes) (replicate 64 0)

@@ -1,9 +1,9 @@
 -- A register is refused by the first rule that it fails: short 1, then 2, length 1, 3, 4 over the whole register, 5 over the whole
 -- register, 6, 7 (01, "Refused because of what was sent"), 30 (02, 2026-01).
-use Rattle.std.specs.Prelude.{◌≡◌, Bool, cond, ◌&&◌, not, List, [], ◌∷◌, ℕ, length}
+use Rattle.std.specs.Prelude.{◌≡◌, Bool, cond, ◌&&◌, not, List, [], ◌∷◌, ℕ, length, Result, Ok, Err}
 use Rattle.trace.specs.Refusals.{first_refusal}
-use Rattle.register.specs.declared.Answer.{Answer}
-use Rattle.register.specs.declared.Answer.TheVariants.{Accepted, Refused}
+use Rattle.register.specs.declared.RegisterRefusal.{RegisterRefusal}
+use Rattle.register.specs.declared.RegisterRefusal.TheVariants.{Length, Counts, RunLengths, Record, Index, MetTwice, Unmet, SemiScheduledMember}
 use Rattle.chains.specs.declared.Chains.{Chains}
 use Rattle.register.specs.declared.Registered.{Registered}
 use Rattle.register.specs.Fields.{unit_count, aggregate_count, lengths_at, fields_of}
@@ -11,38 +11,44 @@ use Rattle.chains.specs.Chains.{all_members}
 use Rattle.chains.specs.Layouts.{roster_of}
 use Rattle.chains.specs.Rules.{indices_in, met_once, rest_ends, members_scheduled}
 use Rattle.register.specs.Rules.{long_enough, whole_length, rising, header_spare, units_spare, heads_spare}
-use Rattle.plants.specs.Rosters.{no_roster, counts_in, kinds_known}
+use Rattle.plants.specs.Rosters.{counts_in, kinds_known}
 
--- ---- the answer in 01's numbers
+-- a refusal's number in 01, and of the last in 02
+unfoldable pub register_number : RegisterRefusal → ℕ
+register_number Length = 1
+register_number Counts = 2
+register_number RunLengths = 3
+register_number Record = 4
+register_number Index = 5
+register_number MetTwice = 6
+register_number Unmet = 7
+register_number SemiScheduledMember = 30
 
--- the refusal's number in 01, 0 where it is accepted
-unfoldable pub answer_number : Answer → ℕ
-answer_number (Accepted visits) = 0
-answer_number (Refused number) = number
+-- the number of an answer in 01, 0 where it is accepted
+abbrev pub answer_number : {A : Type 0} → Result A RegisterRefusal → ℕ
+answer_number (Ok a) = 0
+answer_number (Err k) = register_number k
 
 -- the visits, 0 where it is refused
-unfoldable pub answer_visits : Answer → ℕ
-answer_visits (Accepted visits) = visits
-answer_visits (Refused number) = 0
+unfoldable pub answer_visits : Result Registered RegisterRefusal → ℕ
+answer_visits (Ok r) = r.visits
+answer_visits (Err k) = 0
 
 -- the visits that an answer has to tell: they "equal the number of units in chains"; "zero values (visits 0)" where it is refused
-unfoldable pub visits_of : Answer → Chains → ℕ
-visits_of (Accepted visits) c = length (all_members c)
-visits_of (Refused number) c = 0
+unfoldable pub visits_of : {A : Type 0} → Result A RegisterRefusal → Chains → ℕ
+visits_of (Ok a) c = length (all_members c)
+visits_of (Err k) c = 0
 
 -- ---- what is returned
 
-unfoldable pub refused_by : ℕ → Registered
-refused_by number = record { answer = Refused number; roster = no_roster }
-
 -- the visits are the units in chains, and the members are held side by side
 unfoldable pub accepted_as : Chains → Registered
-accepted_as c = record { answer = Accepted (length (all_members c)); roster = roster_of c }
+accepted_as c = record { visits = length (all_members c); roster = roster_of c }
 
 -- ---- the rules in their order
 
-abbrev pub unless : Bool → ℕ → Registered → Registered
-unless holds number rest = cond holds rest (refused_by number)
+abbrev pub unless : Bool → RegisterRefusal → Result Registered RegisterRefusal → Result Registered RegisterRefusal
+unless holds refusal rest = cond holds rest (Err refusal)
 
 -- 3: small and large
 unfoldable pub lengths_rise : List ℕ → Bool
@@ -53,19 +59,19 @@ unfoldable pub fields_known : List ℕ → Bool
 fields_known bytes = (header_spare bytes && kinds_known (fields_of bytes).kinds (unit_count bytes)) && (units_spare bytes && heads_spare bytes)
 
 -- 6, 7 and 30, over the chains
-unfoldable pub chained_from : Chains → Registered
-chained_from c = unless (met_once c) 6 (unless (rest_ends c) 7 (unless (members_scheduled c) 30 (accepted_as c)))
+unfoldable pub chained_from : Chains → Result Registered RegisterRefusal
+chained_from c = unless (met_once c) MetTwice (unless (rest_ends c) Unmet (unless (members_scheduled c) SemiScheduledMember (Ok (accepted_as c))))
 
 -- 4 and 5, over the whole register
-unfoldable pub records_from : List ℕ → Registered
-records_from bytes = unless (fields_known bytes) 4 (unless (indices_in (fields_of bytes)) 5 (chained_from (fields_of bytes)))
+unfoldable pub records_from : List ℕ → Result Registered RegisterRefusal
+records_from bytes = unless (fields_known bytes) Record (unless (indices_in (fields_of bytes)) Index (chained_from (fields_of bytes)))
 
-unfoldable pub registered_of : List ℕ → Registered
+unfoldable pub registered_of : List ℕ → Result Registered RegisterRefusal
 registered_of bytes =
-    unless (long_enough bytes) 1
-    (unless (counts_in (unit_count bytes) (aggregate_count bytes)) 2
-    (unless (whole_length bytes) 1
-    (unless (lengths_rise bytes) 3
+    unless (long_enough bytes) Length
+    (unless (counts_in (unit_count bytes) (aggregate_count bytes)) Counts
+    (unless (whole_length bytes) Length
+    (unless (lengths_rise bytes) RunLengths
     (records_from bytes))))
 
 -- ---- the refusal
@@ -88,7 +94,7 @@ register_refusal bytes =
 
 -- ---- what reading promises
 
-pub record Reads (bytes : List ℕ) (r : Registered) : Type 0 where
+pub record Reads (bytes : List ℕ) (r : Result Registered RegisterRefusal) : Type 0 where
   pub result : r ≡ registered_of bytes
-  pub number : answer_number r.answer ≡ register_refusal bytes
-  pub visits : answer_visits r.answer ≡ visits_of r.answer (fields_of bytes)
+  pub number : answer_number r ≡ register_refusal bytes
+  pub visits : answer_visits r ≡ visits_of r (fields_of bytes)

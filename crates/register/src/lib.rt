@@ -1,74 +1,55 @@
-// Reads a register (01, "The register"; 02, 2026-01 and 2026-08): the roster and the visits along its chains, or the number of its refusal.
+// Reads a register (01, "The register"; 02, 2026-01 and 2026-08): the roster and the visits along its chains, or its refusal.
 #![tactic(auto)]
 
 mod header;
 mod records;
 
-ghost use Rattle.std.specs.Prelude.{◌≡◌, ◌<◌, length};
+ghost use Rattle.std.specs.Prelude.{◌≡◌};
 ghost use Rattle.chains.specs.Rules.{Walkable};
 ghost use Rattle.chains.specs.Walks.{roster_from};
-ghost use Rattle.register.specs.Fields.{byte_at};
-ghost use Rattle.register.specs.Registers.{answer_number, answer_visits, refused_by, chained_from, records_from, Reads};
+ghost use Rattle.register.specs.Registers.{register_number, chained_from, records_from, Reads};
 ghost use Rattle.register.specs.Headers.{Headed};
 
 use chains::Chains;
 use chains::visits::Walked;
 use plants::Roster;
 
-// The visits along the chains, or the number in 01.
-#[derive(Clone, Copy)]
-pub enum Answer {
-    Accepted(u32),
-    Refused(u32),
+// The rules that a register can fail. 01 gives each its number, and 02, 2026-01, the last one's.
+#[derive(Clone, Copy, Debug, PartialEq, Eq, Hash)]
+pub enum RegisterRefusal {
+    Length,
+    Counts,
+    RunLengths,
+    Record,
+    Index,
+    MetTwice,
+    Unmet,
+    SemiScheduledMember,
 }
 
-impl Answer {
-    // The refusal's number, 0 where the register is accepted.
-    #[tactic(auto, unfolding(crate::specs::Registers::answer_number))]
-    pub fn number(self) -> u32
-        ensures { result ≡ answer_number self }
-    {
-        match self {
-            Answer::Accepted(_) => 0,
-            Answer::Refused(number) => number,
-        }
-    }
+impl From<RegisterRefusal> for u32 {
+    ghost from_gives = { λ refusal number. number ≡ register_number refusal };
 
-    // The visits, 0 where it is refused.
-    #[tactic(auto, unfolding(crate::specs::Registers::answer_visits))]
-    pub fn visits(self) -> u32
-        ensures { result ≡ answer_visits self }
-    {
-        match self {
-            Answer::Accepted(visits) => visits,
-            Answer::Refused(_) => 0,
+    #[tactic(auto, unfolding(crate::specs::Registers::register_number))]
+    fn from(refusal: RegisterRefusal) -> u32 {
+        match refusal {
+            RegisterRefusal::Length => 1,
+            RegisterRefusal::Counts => 2,
+            RegisterRefusal::RunLengths => 3,
+            RegisterRefusal::Record => 4,
+            RegisterRefusal::Index => 5,
+            RegisterRefusal::MetTwice => 6,
+            RegisterRefusal::Unmet => 7,
+            RegisterRefusal::SemiScheduledMember => 30,
         }
     }
 }
 
-// A refused register gives a roster of zeros.
-#[derive(Clone, Copy)]
+// The visits along the chains of an accepted register, and what it loads.
+#[derive(Clone, Copy, Debug, PartialEq, Eq, Hash)]
 pub struct Registered {
-    pub answer: Answer,
+    pub visits: u32,
     pub roster: Roster,
-}
-
-// The byte at `at`.
-pub(crate) fn byte_at(bytes: &[u8], at: usize) -> usize
-    requires { at < length bytes.now }
-    ensures { (result ≡ byte_at bytes.now at) × (result < 256) }
-{
-    plants::wide(bytes[at])
-}
-
-#[tactic(auto, unfolding(crate::specs::Registers::refused_by))]
-fn refused(number: u32) -> Registered
-    ensures { result ≡ refused_by number }
-{
-    Registered {
-        answer: Answer::Refused(number),
-        roster: plants::no_roster(),
-    }
 }
 
 // What is held of the chains that were walked.
@@ -77,87 +58,74 @@ fn laid_out(chains: Chains, walked: Walked) -> Roster
     ensures { result ≡ roster_from chains walked }
 {
     let walk = walked.walk;
-    let stretches = walked.stretches;
-    let small = chains.small;
-    let large = chains.large;
     let kinds = chains.kinds;
     let chained = walk.met;
     let members = walk.members;
-    let starts = stretches.starts;
-    let counts = stretches.counts;
+    let stretches = walked.stretches;
     Roster {
         units: chains.units,
         aggregates: chains.aggregates,
-        small,
-        large,
+        small: chains.small,
+        large: chains.large,
         kinds,
         chained,
         members,
-        starts,
-        counts,
+        stretches,
     }
 }
 
-// Refusals 6, 7 and 30, or the roster that the chains give.
-fn chained_from(chains: Chains) -> Registered
+// 6, 7 and 30, or the roster that the chains give.
+fn chained_from(chains: Chains) -> Result<Registered, RegisterRefusal>
     requires { Walkable chains }
     ensures { result ≡ chained_from chains }
 {
     let walked = chains::visits::walk_chains(chains);
     let walk = walked.walk;
     if walk.twice {
-        return refused(6);
+        return Err(RegisterRefusal::MetTwice);
     }
-    let met = walk.met;
-    let ends = chains::rest_ends(chains, met);
-    let scheduled = chains::members_scheduled(chains, met);
-    if !ends {
-        return refused(7);
+    if !chains::rest_ends(chains, walk.met) {
+        return Err(RegisterRefusal::Unmet);
     }
-    if !scheduled {
-        return refused(30);
+    if !chains::members_scheduled(chains, walk.met) {
+        return Err(RegisterRefusal::SemiScheduledMember);
     }
-    Registered {
-        answer: Answer::Accepted(walk.steps),
+    Ok(Registered {
+        visits: walk.steps,
         roster: laid_out(chains, walked),
-    }
+    })
 }
 
-// Refusals 4 and 5, each over the whole register, and what follows.
-fn records_from(bytes: &[u8]) -> Registered
+// 4 and 5, each over the whole register, and what follows.
+fn records_from(bytes: &[u8]) -> Result<Registered, RegisterRefusal>
     requires { Headed bytes.now }
     ensures { result ≡ records_from bytes.now }
 {
     let chains = records::read_fields(bytes);
-    let known = records::fields_known(bytes, chains);
-    let inside = chains::indices_in(chains);
-    if !known {
-        return refused(4);
+    if !records::fields_known(bytes, chains) {
+        return Err(RegisterRefusal::Record);
     }
-    if !inside {
-        return refused(5);
+    if !chains::indices_in(chains) {
+        return Err(RegisterRefusal::Index);
     }
     chained_from(chains)
 }
 
 // Any bytes can be sent. A refused register loads nothing.
-pub fn read_register(bytes: &[u8]) -> Registered
+pub fn read_register(bytes: &[u8]) -> Result<Registered, RegisterRefusal>
     ensures { Reads bytes.now result }
 {
     if bytes.len() < 16 {
-        return refused(1);
+        return Err(RegisterRefusal::Length);
     }
-    let counts = header::counts_known(bytes);
-    if !counts {
-        return refused(2);
+    if !header::counts_known(bytes) {
+        return Err(RegisterRefusal::Counts);
     }
-    let whole = header::whole_length(bytes);
-    if !whole {
-        return refused(1);
+    if !header::is_whole(bytes) {
+        return Err(RegisterRefusal::Length);
     }
-    let rise = header::lengths_rise(bytes);
-    if !rise {
-        return refused(3);
+    if !header::lengths_rise(bytes) {
+        return Err(RegisterRefusal::RunLengths);
     }
     records_from(bytes)
 }

@@ -1,9 +1,15 @@
-use Rattle.std.proofs.Common.{rules}
-use Rattle.trace.proofs.Sweeps.{every-none, every_more}
+use Rattle.std.proofs.Common.{rules, tests, refl, ◌∙◌, take, Option, None, Bool}
+use Rattle.std.specs.Option.{is_some}
+use Rattle.std.proofs.lemmas.Iterator.{YieldsList-from_slice}
+use Rattle.std.proofs.lemmas.Iterator.Search.{all_from_yields_List}
+use Rattle.kinds.specs.declared.Kind.{Kind}
+use Rattle.trace.proofs.Sweeps.{every_take}
+use Rattle.plants.specs.Rosters.{kinds_known}
 use Rattle.plants.proofs.known_kinds.Goals as goal
 
-pub loop-i-init : goal.loop-i-init
-loop-i-init c = search (rules, every-none)
-
-pub loop-i-preserved : goal.loop-i-preserved
-loop-i-preserved c = search (rules, every_more)
+pub returns : goal.returns
+unfolding kinds_known
+returns c =
+    let test : Option Kind → Bool = is_some in
+    all_from_yields_List test _ _ _ c.all.ensures.ran (YieldsList-from_slice (take c.args.units c.args.kinds) cc) (λ x b q k. search (rules, tests))
+    ∙ every_take test _ c.args.kinds None c.args.units (search rules) (λ i l. refl)

@@ -1,16 +1,13 @@
-use Rattle.std.proofs.Common.{rules, ◌≡◌, ◌&&◌, ◌+◌, ℕ, Bool, List, ltb, get_or}
-use Rattle.trace.specs.Sweeps.{every}
-use Rattle.trace.proofs.Sweeps.{every-none, every_more}
-use Rattle.plants.specs.Rosters.{place_at}
+use Rattle.std.proofs.Common.{rules, tests, ltb, refl, ◌∙◌, ℕ, Bool}
+use Rattle.std.proofs.lemmas.Iterator.{YieldsList-from_slice}
+use Rattle.std.proofs.lemmas.Iterator.Search.{all_from_yields_List}
+use Rattle.trace.proofs.Sweeps.{every_list}
+use Rattle.plants.specs.Rosters.{places_in}
 use Rattle.plants.proofs.places_in.Goals as goal
 
--- the flag with one entry more, whose byte was widened
-place-more : (members : List ℕ) (units k entry : ℕ) (ok : Bool) → ok ≡ every (place_at members units) k → entry ≡ get_or members k 0
-    → (ok && ltb entry units) ≡ every (place_at members units) (k + 1)
-place-more members units k entry ok e h = every_more (place_at members units) k ok (ltb entry units) e (rw h)
-
-pub loop-k-init : goal.loop-k-init
-loop-k-init c = search (rules, every-none)
-
-pub loop-k-preserved : goal.loop-k-preserved
-loop-k-preserved c = search (rules, place-more)
+pub returns : goal.returns
+unfolding places_in
+returns c =
+    let test : ℕ → Bool = λ place. ltb place c.args.units in
+    all_from_yields_List test _ _ _ c.all.ensures.ran (YieldsList-from_slice c.args.members cc) (λ x b q k. search (rules, tests))
+    ∙ every_list test _ c.args.members 0 64 (search rules) (λ i l. refl)

@@ -1,9 +1,13 @@
-use Rattle.std.proofs.Common.{rules}
-use Rattle.trace.proofs.Sweeps.{every-none, every_more}
+use Rattle.std.proofs.Common.{rules, tests, refl, ◌∙◌, take}
+use Rattle.std.proofs.lemmas.Iterator.{YieldsList-from_slice}
+use Rattle.std.proofs.lemmas.Iterator.Search.{all_from_yields_List}
+use Rattle.trace.proofs.Sweeps.{every_take}
+use Rattle.plants.specs.Rosters.{no_stretch, stretch_in, stretches_in}
 use Rattle.plants.proofs.stretches_in.Goals as goal
 
-pub loop-j-init : goal.loop-j-init
-loop-j-init c = search (rules, every-none)
-
-pub loop-j-preserved : goal.loop-j-preserved
-loop-j-preserved c = search (rules, every_more)
+pub returns : goal.returns
+unfolding stretches_in
+returns c =
+    all_from_yields_List stretch_in _ _ _ c.all.ensures.ran (YieldsList-from_slice (take c.args.aggregates c.args.stretches) cc)
+    (λ x b q k. search (rules, tests))
+    ∙ every_take stretch_in _ c.args.stretches no_stretch c.args.aggregates (search rules) (λ i l. refl)

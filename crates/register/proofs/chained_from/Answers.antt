@@ -5,11 +5,11 @@ use Rattle.register.proofs.chained_from.Goals as goal
 pub returns-then-walk : goal.returns-then-walk
 returns-then-walk c = search (rules, walked-6)
 
-pub returns-then-not-ends : goal.returns-then-not-ends
-returns-then-not-ends c = search (rules, walked-7)
+pub returns-then-not-rest_ends : goal.returns-then-not-rest_ends
+returns-then-not-rest_ends c = search (rules, walked-7)
 
-pub returns-then-not-scheduled : goal.returns-then-not-scheduled
-returns-then-not-scheduled c = search (rules, walked-30)
+pub returns-then-not-members_scheduled : goal.returns-then-not-members_scheduled
+returns-then-not-members_scheduled c = search (rules, walked-30)
 
 pub returns : goal.returns
 returns c = search (rules, walked-accepted)

@@ -2,8 +2,5 @@
 use Rattle.chains.proofs.Walks.{Along}
 use Rattle.chains.proofs.visits.walk_chain.Given as goal
 
-abbrev pub invariant-loop-left : goal.invariant-loop-left
-invariant-loop-left l = Along l.chains l.initial.so_far l.head l.so_far l.unit l.left
-
-abbrev pub decreases-loop-left : goal.decreases-loop-left
-decreases-loop-left l = l.left
+abbrev pub invariant-loop : goal.invariant-loop
+invariant-loop l = Along l.chains l.initial.so_far l.head l.so_far l.unit l.counter
