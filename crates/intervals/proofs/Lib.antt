@@ -1,8 +1,7 @@
--- What belongs to no one function. For the call: Locality, States, Surveys, Numbers, Verdicts and Refusals. For the crates above: Places and Soundness.
+-- What belongs to no one function. For the call: Locality, States, Surveys, Verdicts and Refusals. For the crates above: Places and Soundness.
 pub mod Locality
 pub mod States
 pub mod Surveys
-pub mod Numbers
 pub mod Verdicts
 pub mod Refusals
 pub mod Places

@@ -1,6 +1,6 @@
 -- Points, units and groups (01, "The register": "Points are 1 to n for the units, n+1 to n+m for the aggregates. A group is an
 -- aggregate with its members, or a unit in no chain"). In lists a point or a unit stands at its place, its number less one.
-use Rattle.std.specs.Prelude.{Bool, false, cond, ◌&&◌, List, [], ◌∷◌, ℕ, zero, suc, ◌+◌, ◌-◌, eqb, ltb, get_or}
+use Rattle.std.specs.Prelude.{Bool, false, cond, ◌&&◌, List, [], ◌∷◌, ℕ, zero, suc, ◌+◌, ◌-◌, eqb, ltb, get_or, None}
 use Rattle.telemetry.specs.Ranges.{is_unidirectional}
 use Rattle.plants.specs.Plants.{Plant, elem}
 
@@ -18,7 +18,7 @@ units_of plant i = cond (ltb i plant.units) (i ∷ []) (plant.members (i - plant
 
 -- whether the point at a place is that of a unit of kind 1, 2 or 4, in a chain or in none; an aggregate's is not
 unfoldable pub is_unidirectional_at : Plant → ℕ → Bool
-is_unidirectional_at plant i = ltb i plant.units && is_unidirectional (get_or plant.kinds i 0)
+is_unidirectional_at plant i = ltb i plant.units && is_unidirectional (get_or plant.kinds i None)
 
 -- by place. Demand 3 speaks of a unit in no chain; what is said of `unit` holds of a member by itself too
 pub data Group : Type 0 where

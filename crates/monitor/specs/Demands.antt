@@ -1,6 +1,6 @@
 -- Demand 3, over every list of interval, declare, reinstate, look, reason and target calls, refused ones included, from a freshly accepted
 -- register on.
-use Rattle.std.specs.Prelude.{◌≡◌, ◌↔◌, ◌⊎◌, Bool, true, false, cond, ◌&&◌, List, [], ◌∷◌, ◌++◌, ℕ, zero, suc, ◌*◌, ◌≤◌, ℤ, length, take, drop}
+use Rattle.std.specs.Prelude.{◌≡◌, ◌↔◌, ◌⊎◌, Bool, true, false, cond, ◌&&◌, List, [], ◌∷◌, ◌++◌, ℕ, zero, suc, ◌*◌, ◌≤◌, ℤ, length, take, drop, Ok}
 use Rattle.trace.specs.Lists.{outcomes, Alike, sights, Since}
 use Rattle.plants.specs.Plants.{Plant, place}
 use Rattle.marks.specs.Levels.{is_dispatchable}
@@ -10,7 +10,6 @@ use Rattle.intervals.specs.Plants.{total, named, is_unidirectional_at, Group, un
 use Rattle.intervals.specs.Assessments.{header_of, mode_of, bytes_at}
 use Rattle.intervals.specs.Monitors.{point_at}
 use Rattle.intervals.specs.declared.Monitor.{Monitor}
-use Rattle.intervals.specs.declared.Verdict.TheVariants.{Accept}
 use Rattle.operators.specs.Operators.{Operator, declare, reinstate, ask, look}
 use Rattle.monitor.specs.Calls.{Call, interval, operate, Outcome, refusal, reported, done, looked, reasoned, targeted, answer, after, run}
 use Rattle.monitor.specs.History.{History, begin, is_declared, assessment_then, verdict, extend, history, foretold}
@@ -65,9 +64,9 @@ seen plant g = sights (view plant g)
 -- "an operator's declaration of it was accepted or, in automatic mode, a SMALL or LARGE mark of its own brought its small or large
 -- run to that run's length for declaration or beyond"
 pub data Declares (plant : Plant) (p : ℕ) (h : History) : Call → Type 0 where
-  by_operator : (level : ℤ) → verdict plant h (operate (declare level) p) ≡ Accept → Declares plant p h (operate (declare level) p)
+  by_operator : (level : ℤ) → verdict plant h (operate (declare level) p) ≡ Ok tt → Declares plant p h (operate (declare level) p)
   by_mark : (buffer report : List ℕ)
-      → verdict plant h (interval buffer report) ≡ Accept
+      → verdict plant h (interval buffer report) ≡ Ok tt
       → named plant p ≡ true
       → mode_of (header_of buffer) ≡ 1
       → ((assessment_then plant h buffer (place p)).mark ≡ Small) ⊎ ((assessment_then plant h buffer (place p)).mark ≡ Large)
@@ -76,7 +75,7 @@ pub data Declares (plant : Plant) (p : ℕ) (h : History) : Call → Type 0 wher
       → Declares plant p h (interval buffer report)
 
 abbrev pub Reinstates : Plant → ℕ → History → Call → Type 0
-Reinstates plant p h c = (c ≡ operate reinstate p) × (verdict plant h c ≡ Accept)
+Reinstates plant p h c = (c ≡ operate reinstate p) × (verdict plant h c ≡ Ok tt)
 
 -- "since its last accepted reinstatement (or since the register, if there was none)": the list splits into calls before, an event,
 -- and later calls, none of which is an accepted reinstatement of the point

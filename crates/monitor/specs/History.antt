@@ -1,11 +1,11 @@
 -- What has happened, worked out from the plant and the calls alone, first call to last (01, "Whole lists of calls"): "nothing from
 -- the monitor's state or answers goes in". Runs do not stop at 255, have the number of their first mark,
 -- and go on while a point is declared.
-use Rattle.std.specs.Prelude.{Bool, true, false, cond, ◌&&◌, not, List, ℕ, ℤ, pos, length}
+use Rattle.std.specs.Prelude.{Bool, true, false, cond, ◌&&◌, not, List, ℕ, ℤ, pos, length, Option, Some, None, Ok, Err}
 use Rattle.trace.specs.Sweeps.{records}
 use Rattle.trace.specs.Lists.{fold, updated, below}
 use Rattle.plants.specs.Plants.{Plant, place}
-use Rattle.marks.specs.KeptLines.{nothing_kept, kept_from}
+use Rattle.marks.specs.KeptLines.{kept_from}
 use Rattle.marks.specs.declared.Kept.{Kept}
 use Rattle.marks.specs.declared.Assessment.{Assessment}
 use Rattle.points.specs.Points.{no_run, small_after, large_after, stored_run, reason_of, declared_at, reaches, status_of, declares}
@@ -17,9 +17,8 @@ use Rattle.points.specs.declared.Run.{Run}
 use Rattle.points.specs.declared.Point.{Point}
 use Rattle.intervals.specs.Plants.{total, named, is_unidirectional_at}
 use Rattle.intervals.specs.Assessments.{header_of, number_of, is_automatic, rule_of, line_at, is_fresh, assessment_at}
-use Rattle.intervals.specs.Intervals.{decide, judge_interval}
-use Rattle.intervals.specs.declared.Verdict.{Verdict}
-use Rattle.intervals.specs.declared.Verdict.TheVariants.{Accept, Refuse}
+use Rattle.intervals.specs.Intervals.{Verdict, decide, judge_interval}
+use Rattle.intervals.specs.declared.CallRefusal.TheVariants.{NoPoint, Level, Status, NotDeclared, NoReason}
 use Rattle.operators.specs.Operators.{Operator, declare, reinstate, ask, look, reason, target, allowed_level, permit_target, aggregate_at}
 use Rattle.monitor.specs.Calls.{Call, interval, operate, Outcome, refusal, reported, reply}
 
@@ -38,12 +37,11 @@ pub record Past : Type 0 where
   pub large : Run
   pub standing : Standing
 
--- whether an interval was accepted, the last one's number and mode, each unit's kept line, and each point, by place
+-- the number of the last interval accepted, where one was, its mode, each unit's kept line, and each point, by place
 pub record History : Type 0 where
-  pub started : Bool
-  pub last : ℕ
+  pub last : Option ℕ
   pub automatic : Bool
-  pub kept : ℕ → Kept
+  pub kept : ℕ → Option Kept
   pub points : ℕ → Past
 
 -- "At the start no interval is accepted, nothing is kept and runs are 0"
@@ -51,7 +49,7 @@ abbrev pub untouched : Past
 untouched = record { small = no_run; large = no_run; standing = undeclared }
 
 abbrev pub begin : History
-begin = record { started = false; last = 0; automatic = false; kept = λ i. nothing_kept; points = λ i. untouched }
+begin = record { last = None; automatic = false; kept = λ i. None; points = λ i. untouched }
 
 -- ---- an accepted interval
 
@@ -78,7 +76,7 @@ marked plant automatic number a q =
 -- "An accepted one marks every point from its lines and the lines kept before it"
 abbrev pub assessment_then : Plant → History → List ℕ → ℕ → Assessment
 assessment_then plant h buffer i =
-    assessment_at plant buffer (is_fresh h.started h.last (number_of (header_of buffer))) h.kept i
+    assessment_at plant buffer (is_fresh h.last (number_of (header_of buffer))) h.kept i
 
 -- ---- operator calls
 
@@ -93,12 +91,12 @@ permitted plant i (declare level) q =
     not (is_declared q.standing)
     && reaches plant.small.not_responding plant.large.not_responding q.small.count q.large.count
     )
-    Accept
-    (Refuse 22))
-    (Refuse 11)
-permitted plant i reinstate q = cond (is_declared q.standing) Accept (Refuse 23)
-permitted plant i (ask look) q = Accept
-permitted plant i (ask reason) q = cond (is_declared q.standing) Accept (Refuse 36)
+    (Ok tt)
+    (Err Status))
+    (Err Level)
+permitted plant i reinstate q = cond (is_declared q.standing) (Ok tt) (Err NotDeclared)
+permitted plant i (ask look) q = Ok tt
+permitted plant i (ask reason) q = cond (is_declared q.standing) (Ok tt) (Err NoReason)
 permitted plant i (ask target) q = permit_target plant i
 
 -- reinstatement "sets both runs to 0"
@@ -112,16 +110,15 @@ changed (ask question) q = q
 -- "An interval is accepted unless 8, 9 or 21 applies, 21 looking at the intervals accepted earlier in the list"
 abbrev pub verdict : Plant → History → Call → Verdict
 verdict plant h (interval buffer report) =
-    judge_interval plant h.started h.last (header_of buffer) (length buffer) (length report)
+    judge_interval plant h.last (header_of buffer) (length buffer) (length report)
 verdict plant h (operate op p) =
-    cond (named plant p) (permitted plant (place p) op (h.points (place p))) (Refuse 10)
+    cond (named plant p) (permitted plant (place p) op (h.points (place p))) (Err NoPoint)
 
 abbrev pub effect : Plant → History → Call → History
 effect plant h (interval buffer report) =
     let header = header_of buffer in
     record {
-      started = true;
-      last = number_of header;
+      last = Some (number_of header);
       automatic = is_automatic header;
       kept = below plant.units (λ i. kept_from (line_at plant buffer i)) h.kept;
       points =
@@ -129,7 +126,6 @@ effect plant h (interval buffer report) =
     }
 effect plant h (operate op p) =
     record {
-      started = h.started;
       last = h.last;
       automatic = h.automatic;
       kept = h.kept;

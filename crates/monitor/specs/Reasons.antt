@@ -1,6 +1,6 @@
 -- Which run it was (02, 2026-06): what is told of a declared point "must be the very event that the declaration rule finds in the point's
 -- history, the earliest since reinstatement". Said over the list of calls; of the history it takes acceptance, marks and the lengths of runs.
-use Rattle.std.specs.Prelude.{◌≡◌, ◌↔◌, ◌⊎◌, List, [], ◌∷◌, ◌++◌, ℕ, ◌≤◌, ◌<◌, ℤ}
+use Rattle.std.specs.Prelude.{◌≡◌, ◌↔◌, ◌⊎◌, List, [], ◌∷◌, ◌++◌, ℕ, ◌≤◌, ◌<◌, ℤ, Ok}
 use Rattle.trace.specs.Lists.{Earliest}
 use Rattle.plants.specs.Plants.{Plant, place}
 use Rattle.marks.specs.declared.Mark.{Mark}
@@ -9,7 +9,6 @@ use Rattle.points.specs.declared.Reason.{Reason}
 use Rattle.points.specs.declared.Reason.TheVariants.{ByOperator, BySmallRun, ByLargeRun}
 use Rattle.intervals.specs.Assessments.{header_of, number_of}
 use Rattle.intervals.specs.declared.Monitor.{Monitor}
-use Rattle.intervals.specs.declared.Verdict.TheVariants.{Accept}
 use Rattle.operators.specs.Operators.{declare, ask, reason}
 use Rattle.monitor.specs.Calls.{Call, interval, operate, reasoned, answer, after}
 use Rattle.monitor.specs.History.{History, begin, assessment_then, verdict, extend, history}
@@ -31,7 +30,7 @@ clears_large mark = (mark ≡ Off) ⊎ ((mark ≡ Clear) ⊎ (mark ≡ Small))
 -- an accepted interval gives the point such a mark
 pub data Marks (plant : Plant) (p : ℕ) (Such : Mark → Type 0) (h : History) : Call → Type 0 where
   marks : (buffer report : List ℕ)
-      → verdict plant h (interval buffer report) ≡ Accept
+      → verdict plant h (interval buffer report) ≡ Ok tt
       → Such (assessment_then plant h buffer (place p)).mark
       → Marks plant p Such h (interval buffer report)
 

@@ -1,30 +1,25 @@
--- An operator call by the verdict on where it points, over plain values. Assumes nothing.
-use mathlib.Core.Path.{◌≡◌, refl, sym, ap, ◌∙◌}
+-- Where a point is, and what is permitted there, over plain values. Assumes nothing.
+use mathlib.Core.Path.{◌≡◌, refl, sym, ◌∙◌}
 use mathlib.Core.Bool.{Bool, true, false, cond, ◌&&◌}
 use Prim.Native.Nat.{ℕ, zero, suc, ◌+◌, ◌-◌, ◌≤◌, ◌<◌}
 use native.Mathlib.Omega.{arith}
-use borrow.Author.Tests.{le-leb, lt-leb, ltb-true, ltb-false}
+use borrow.Author.Tests.{leb-true, le-leb, lt-leb, ltb-true, ltb-false}
 use lib.Dec.{leb, ltb}
+use Rattle.trace.proofs.Tests.{and_l, and_r}
+use Rattle.std.specs.Prelude.{Option, Some, None, SomeIff, Ok, Err}
+use Rattle.std.specs.Option.{ok_or}
 use Rattle.plants.specs.Plants.{Plant, place}
-use Rattle.targets.specs.Targets.{no_target}
-use Rattle.targets.specs.declared.Target.{Target}
-use Rattle.points.specs.Points.{normal}
-use Rattle.points.specs.declared.Reason.TheVariants.{ByOperator}
+use Rattle.plants.specs.Rosters.{held}
+use Rattle.plants.specs.declared.Roster.{Roster}
 use Rattle.intervals.specs.Plants.{total, named}
-use Rattle.intervals.specs.Monitors.{plant_in, target_at, point_at, sound_of}
+use Rattle.intervals.specs.Monitors.{roster_in, plant_in, point_at, sound_of, sound_roster}
+use Rattle.intervals.specs.Intervals.{Verdict}
 use Rattle.intervals.specs.declared.Monitor.{Monitor}
-use Rattle.intervals.specs.declared.Verdict.{Verdict}
-use Rattle.intervals.specs.declared.Verdict.TheVariants.{Accept, Refuse}
-use Rattle.intervals.specs.declared.Stepped.{Stepped}
-use Rattle.intervals.proofs.States.{units_small, aggregates-small}
-use Rattle.intervals.proofs.Verdicts.{passed}
-use Rattle.operators.specs.Operators.{Operator, ask, look, reason, target, permit, permit_declared, change, locate_of}
-use Rattle.operators.specs.Operators.{operator_verdict, stored, operated_of, operated_at, looked_of, looked_at, reasoned_of, reasoned_at, targeted_of, targeted_at}
-use Rattle.operators.specs.declared.Looked.{Looked}
-use Rattle.operators.specs.declared.Reasoned.{Reasoned}
-use Rattle.operators.specs.declared.Targeted.{Targeted}
-
--- ---- where a point is
+use Rattle.intervals.specs.declared.CallRefusal.{CallRefusal}
+use Rattle.intervals.specs.declared.CallRefusal.TheVariants.{NoPoint, NoRegister}
+use Rattle.intervals.proofs.States.{roster-held, none-held, units_small, aggregates-small}
+use Rattle.operators.specs.Operators.{Operator, permit_target, aggregate_at, permit, locate_of, operator_verdict}
+use Rattle.operators.specs.declared.Located.{Located}
 
 pub named-is : (plant : Plant) (p : ℕ) → named plant p ≡ (leb 1 p && leb p (total plant))
 unfolding named
@@ -35,121 +30,107 @@ named-is plant (suc i) = go (ltb i (total plant)) refl
     go true e = let h : i < total plant = ltb-true i (total plant) e in rw (le-leb 1 (suc i) (omega arith), le-leb (suc i) (total plant) (omega arith))
     go false e = let h : total plant ≤ i = ltb-false i (total plant) e in rw (le-leb 1 (suc i) (omega arith), lt-leb (suc i) (total plant) (omega arith))
 
+place-is : (p : ℕ) → place p ≡ p - 1
+place-is zero = refl
+place-is (suc i) = omega arith
+
+-- what is known of a point that was found
+pub record Found (m : Monitor) (p : ℕ) (at : Located) : Type 0 where
+  pub sound : sound_of m ≡ true
+  pub named : named (plant_in m) p ≡ true
+  pub roster : at.roster ≡ roster_in m
+  pub place : at.place ≡ place p
+  pub units : at.roster.units ≤ 64
+  pub aggregates : at.roster.aggregates ≤ 16
+  pub inside : at.place < at.roster.units + at.roster.aggregates
+
+-- a point that is named has a place
+below-total : (plant : Plant) (p : ℕ) → named plant p ≡ true → place p < total plant
+unfolding named
+below-total plant zero e = cc
+below-total plant (suc i) e = ltb-true i (total plant) e
+
 module _ (m : Monitor) (p : ℕ) where
-  -- the state is sound and the point is named
-  both-pass : locate_of m p ≡ Accept → (sound_of m ≡ true) × (named (plant_in m) p ≡ true)
+  -- ---- what the code finds
+
+  module _ {roster : Roster} (lent : Some roster ≡ sound_roster m) where
+    pub few : (roster.units ≤ 64) × (roster.aggregates ≤ 16)
+    few = let h = roster-held m roster lent in rw h.1 (units_small m h.0, aggregates-small m h.0)
+
+    module _ {named : Bool} (is : named ≡ (leb 1 p && leb p (roster.units + roster.aggregates))) where
+      pub unnamed : named ≡ false → locate_of m p ≡ Err NoPoint
+      unfolding locate_of plant_in
+      unnamed e = let h = roster-held m roster lent in rw (h.0, ← h.1, named-is (held roster) p, ← is, e)
+
+      pub located : named ≡ true → locate_of m p ≡ Ok (record { roster = roster; place = p - 1 })
+      unfolding locate_of plant_in
+      located e = let h = roster-held m roster lent in rw (h.0, ← h.1, named-is (held roster) p, ← is, e, place-is p)
+
+      pub inside : named ≡ true → p - 1 < roster.units + 16
+      inside e =
+          let up = leb-true p (roster.units + roster.aggregates) (and_r (leb 1 p) (leb p (roster.units + roster.aggregates)) (sym is ∙ e)) in
+          let from = leb-true 1 p (and_l (leb 1 p) (leb p (roster.units + roster.aggregates)) (sym is ∙ e)) in
+          omega (arith, few)
+
+  pub unheld : None ≡ sound_roster m → locate_of m p ≡ Err NoRegister
   unfolding locate_of
-  both-pass e = let loaded = passed (sound_of m) _ 20 e in (loaded.0, (passed (named (plant_in m) p) _ 10 loaded.1).0)
+  unheld e = rw (none-held m e)
 
-  positive : (q : ℕ) → named (plant_in m) q ≡ true → (1 ≤ q) × (q ≤ total (plant_in m)) × (place q ≡ q - 1)
-  unfolding named
-  positive zero e = absurd (let z : ◌≡◌ {A = ℕ} 0 1 = cc in omega arith)
-  positive (suc i) e = let h : i < total (plant_in m) = ltb-true i (total (plant_in m)) e in (omega arith, omega arith, omega arith)
+  -- ---- and what its callers know
 
-  pub located : locate_of m p ≡ Accept → (1 ≤ p) × (p ≤ 80) × (place p ≡ p - 1)
-  unfolding plant_in
-  located e =
-      let b = both-pass e in
-      let q = positive p b.1 in
-      (q.0, omega (arith, q.1, units_small m b.0, aggregates-small m b.0), q.2)
+  pub found : {at : Located} → locate_of m p ≡ Ok at → Found m p at
+  unfolding locate_of plant_in
+  found {at} e = go (sound_of m) (named (plant_in m) p) refl refl e
+    where
+      here : sound_of m ≡ true → named (plant_in m) p ≡ true → (x : Located) → x ≡ record { roster = roster_in m; place = place p } → Found m p x
+      here s n x is =
+          rw is
+          record {
+            sound = s;
+            named = n;
+            roster = refl;
+            place = refl;
+            units = units_small m s;
+            aggregates = aggregates-small m s;
+            inside = below-total (plant_in m) p n;
+          }
 
-  -- its kinds can be looked up
-  pub located-units : locate_of m p ≡ Accept → m.roster.units ≤ 64
-  located-units e = units_small m (both-pass e).0
+      go : (s n : Bool) → sound_of m ≡ s → named (plant_in m) p ≡ n
+          → cond s (cond n (Ok (record { roster = roster_in m; place = place p })) (Err NoPoint)) (Err NoRegister) ≡ Ok at → Found m p at
+      go true true s n is = here s n at (cc)
+      go true false s n is = cc
+      go false n s t is = cc
 
-  -- and it is a unit's, or that of one of 16 aggregates
-  pub located-below : locate_of m p ≡ Accept → p - 1 < m.roster.units + 16
-  unfolding plant_in
-  located-below e = let b = both-pass e in omega (arith, positive p b.1, aggregates-small m b.0)
+  -- what is permitted of it is the verdict
+  pub judged : {at : Located} → locate_of m p ≡ Ok at → (op : Operator)
+      → operator_verdict op m p ≡ permit (held at.roster) at.place op (point_at m at.place)
+  unfolding operator_verdict plant_in
+  judged e op = let f = found e in rw (f.sound, f.named, f.roster, f.place)
 
--- ---- what a call does, by where it points
-
--- a refusal after a test stays one, whatever stands behind the test
-still-refused : (b : Bool) (v w : Verdict) (j k : ℕ) → (v ≡ Refuse k → w ≡ Refuse k) → cond b v (Refuse j) ≡ Refuse k → cond b w (Refuse j) ≡ Refuse k
-still-refused true v w j k f e = f e
-still-refused false v w j k f e = e
-
-module _ (m : Monitor) (p : ℕ) (v : Verdict) (is : v ≡ locate_of m p) where
-  judged-refused : (op : Operator) (k : ℕ) → v ≡ Refuse k → operator_verdict op m p ≡ Refuse k
+  -- and where it was not found, the refusal is
+  pub unfound : {refusal : CallRefusal} → locate_of m p ≡ Err refusal → (op : Operator) → operator_verdict op m p ≡ Err refusal
   unfolding operator_verdict locate_of
-  judged-refused op k e =
-      let own = still-refused (named (plant_in m) p) Accept _ 10 k (λ a. absurd (let z : ◌≡◌ {A = ℕ} 0 1 = cc in omega arith)) in
-      still-refused (sound_of m) _ _ 20 k own (sym is ∙ e)
+  unfound {refusal} e op = go (sound_of m) (named (plant_in m) p) _ _ e
+    where
+      go : (s n : Bool) (at : Located) (v : Verdict) → cond s (cond n (Ok at) (Err NoPoint)) (Err NoRegister) ≡ Err refusal
+          → cond s (cond n v (Err NoPoint)) (Err NoRegister) ≡ Err refusal
+      go true true at v is = cc
+      go true false at v is = cc
+      go false n at v is = cc
 
-  judged-accepted : (op : Operator) (i : ℕ) → v ≡ Accept → i ≡ p - 1 → operator_verdict op m p ≡ permit (plant_in m) i op (point_at m i)
-  unfolding operator_verdict
-  judged-accepted op i e f =
-      let b = both-pass m p (sym is ∙ e) in
-      rw (b.0, b.1) (ap (λ (j : ℕ). permit (plant_in m) j op (point_at m j)) ((located m p (sym is ∙ e)).2 ∙ sym f))
+  -- which aggregate's point it is
+  pub aggregate-of : {at : Located} → locate_of m p ≡ Ok at → aggregate_at (plant_in m) (place p) ≡ at.place - at.roster.units
+  unfolding plant_in
+  aggregate-of e = let f = found e in rw (f.roster, f.place)
 
-  pub refused-call : (op : Operator) (k : ℕ) → v ≡ Refuse k → ◌≡◌ {A = Stepped} (record { verdict = v; monitor = m }) (operated_of op m p)
-  unfolding operated_of
-  refused-call op k e = rw (judged-refused op k e, e)
+-- which aggregate a place is that of, by a subtraction that may fail
+module _ (roster : Roster) (i : ℕ) where
+  pub refused-target : (o : Option ℕ) → SomeIff o (roster.units ≤ i) (i - roster.units) → {e : CallRefusal} → ok_or o NoPoint ≡ Err e
+      → permit_target (held roster) i ≡ Err e
+  refused-target None n {e} is = let same : NoPoint ≡ e = cc in rw (lt-leb roster.units i (omega arith), same)
+  refused-target (Some j) f is = cc
 
-  pub located-call : (op : Operator) (i : ℕ) → v ≡ Accept → i ≡ p - 1 → operated_at op m i ≡ operated_of op m p
-  unfolding operated_of operated_at
-  located-call op i e f =
-      let at : place p ≡ i = (located m p (sym is ∙ e)).2 ∙ sym f in
-      rw (judged-accepted op i e f, at)
-
-  pub refused-look : (k : ℕ) → v ≡ Refuse k → ◌≡◌ {A = Looked} (record { verdict = v; point = normal; monitor = m }) (looked_of m p)
-  unfolding looked_of
-  refused-look k e = rw (judged-refused (ask look) k e, e)
-
-  pub located-look : (i : ℕ) → v ≡ Accept → i ≡ p - 1 → looked_at m i ≡ looked_of m p
-  unfolding looked_of looked_at permit
-  located-look i e f =
-      let at : place p ≡ i = (located m p (sym is ∙ e)).2 ∙ sym f in
-      rw (judged-accepted (ask look) i e f, at)
-
-  pub refused-reason : (k : ℕ) → v ≡ Refuse k → ◌≡◌ {A = Reasoned} (record { verdict = v; reason = ByOperator; monitor = m }) (reasoned_of m p)
-  unfolding reasoned_of
-  refused-reason k e = rw (judged-refused (ask reason) k e, e)
-
-  pub located-reason : (i : ℕ) → v ≡ Accept → i ≡ p - 1 → reasoned_at m i ≡ reasoned_of m p
-  unfolding reasoned_of reasoned_at permit
-  located-reason i e f =
-      let at : place p ≡ i = (located m p (sym is ∙ e)).2 ∙ sym f in
-      rw (judged-accepted (ask reason) i e f, at)
-
-  pub refused-target : (k : ℕ) → v ≡ Refuse k → ◌≡◌ {A = Targeted} (record { verdict = v; target = no_target; monitor = m }) (targeted_of m p)
-  unfolding targeted_of
-  refused-target k e = rw (judged-refused (ask target) k e, e)
-
-  pub located-target : (i : ℕ) → v ≡ Accept → i ≡ p - 1 → targeted_at m i ≡ targeted_of m p
-  unfolding targeted_of targeted_at permit
-  located-target i e f =
-      let at : place p ≡ i = (located m p (sym is ∙ e)).2 ∙ sym f in
-      rw (judged-accepted (ask target) i e f, at)
-
--- ---- at a point's record
-
-module _ (op : Operator) (m : Monitor) (i : ℕ) (v : Verdict) (is : v ≡ permit (plant_in m) i op (point_at m i)) where
-  pub accepted-at : (n : Monitor) → v ≡ Accept → n ≡ stored m i (change op (point_at m i))
-      → ◌≡◌ {A = Stepped} (record { verdict = v; monitor = n }) (operated_at op m i)
-  unfolding operated_at
-  accepted-at n e f = rw (← is, e, f)
-
-  pub refused-at : (k : ℕ) → v ≡ Refuse k → ◌≡◌ {A = Stepped} (record { verdict = v; monitor = m }) (operated_at op m i)
-  unfolding operated_at
-  refused-at k e = rw (← is, e)
-
-module _ (m : Monitor) (i : ℕ) (v : Verdict) (is : v ≡ permit_declared 36 (point_at m i)) where
-  pub reasoned-at : v ≡ Accept → ◌≡◌ {A = Reasoned} (record { verdict = v; reason = (point_at m i).reason; monitor = m }) (reasoned_at m i)
-  unfolding reasoned_at
-  reasoned-at e = rw (← is, e)
-
-  pub unreasoned-at : (k : ℕ) → v ≡ Refuse k → ◌≡◌ {A = Reasoned} (record { verdict = v; reason = ByOperator; monitor = m }) (reasoned_at m i)
-  unfolding reasoned_at
-  unreasoned-at k e = rw (← is, e)
-
-module _ (m : Monitor) (i : ℕ) {t : Target} where
-  pub targeted-at : m.roster.units ≤ i → t ≡ target_at m (i - m.roster.units)
-      → ◌≡◌ {A = Targeted} (record { verdict = Accept; target = t; monitor = m }) (targeted_at m i)
-  unfolding targeted_at plant_in
-  targeted-at l e = rw (le-leb m.roster.units i l, e)
-
-  pub untargeted-at : i < m.roster.units → t ≡ no_target
-      → ◌≡◌ {A = Targeted} (record { verdict = Refuse 10; target = t; monitor = m }) (targeted_at m i)
-  unfolding targeted_at plant_in
-  untargeted-at l e = rw (lt-leb m.roster.units i l, e)
+  pub permitted-target : (o : Option ℕ) → SomeIff o (roster.units ≤ i) (i - roster.units) → {j : ℕ} → ok_or o NoPoint ≡ Ok j
+      → (permit_target (held roster) i ≡ Ok tt) × (j ≡ i - roster.units)
+  permitted-target None n is = cc
+  permitted-target (Some k) f {j} is = let same : k ≡ j = cc in (rw (le-leb roster.units i f.0), sym same ∙ f.1)

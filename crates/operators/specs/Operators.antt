@@ -1,6 +1,7 @@
 -- The operator calls (01, "Report and operator calls"; 02, 2026-06 and 2026-07): what is permitted on a point's record, what it becomes, and what is
 -- answered.
-use Rattle.std.specs.Prelude.{◌≡◌, Bool, cond, ◌&&◌, ◌||◌, not, List, [], ◌∷◌, ℕ, ◌-◌, leb, eqb, ℤ, nat_abs, set}
+use Rattle.std.specs.Prelude.{◌≡◌, Bool, cond, ◌&&◌, ◌||◌, not, List, [], ◌∷◌, ℕ, ◌-◌, leb, eqb, ℤ, nat_abs, set, Result, Ok, Err}
+use Rattle.std.specs.Result.{result_and}
 use Rattle.trace.specs.Refusals.{Refusal, first_refusal}
 use Rattle.plants.specs.Plants.{Plant, place}
 use Rattle.marks.specs.Levels.{is_dispatchable}
@@ -12,15 +13,12 @@ use Rattle.points.specs.declared.Reason.{Reason}
 use Rattle.points.specs.declared.Reason.TheVariants.{ByOperator}
 use Rattle.points.specs.declared.Point.{Point}
 use Rattle.intervals.specs.Plants.{named, is_unidirectional_at}
-use Rattle.intervals.specs.Monitors.{plant_in, target_at, point_at, sound_of}
-use Rattle.intervals.specs.Intervals.{decide, verdict_number}
+use Rattle.intervals.specs.Monitors.{roster_in, plant_in, target_at, point_at, sound_of}
+use Rattle.intervals.specs.Intervals.{Verdict, result_number}
 use Rattle.intervals.specs.declared.Monitor.{Monitor}
-use Rattle.intervals.specs.declared.Verdict.{Verdict}
-use Rattle.intervals.specs.declared.Verdict.TheVariants.{Accept, Refuse}
-use Rattle.intervals.specs.declared.Stepped.{Stepped}
-use Rattle.operators.specs.declared.Looked.{Looked}
-use Rattle.operators.specs.declared.Reasoned.{Reasoned}
-use Rattle.operators.specs.declared.Targeted.{Targeted}
+use Rattle.intervals.specs.declared.CallRefusal.{CallRefusal}
+use Rattle.intervals.specs.declared.CallRefusal.TheVariants.{NoPoint, Level, NoRegister, Status, NotDeclared, NoReason}
+use Rattle.operators.specs.declared.Located.{Located}
 
 -- what is asked of a point: nothing of the state changes. A later call that names a point and changes nothing is one case more here, and
 -- one in each definition by cases on questions: what permits it, its own refusals and its reply
@@ -42,18 +40,18 @@ allowed_level unidirectional level = leb (nat_abs level) 128000000 && is_dispatc
 -- 22: "declare on status other than 2 or 3"
 abbrev pub permit_declare : Bool → ℤ → Point → Verdict
 permit_declare unidirectional level q =
-    cond (allowed_level unidirectional level) (cond (eqb q.status 2 || eqb q.status 3) Accept (Refuse 22)) (Refuse 11)
+    cond (allowed_level unidirectional level) (cond (eqb q.status 2 || eqb q.status 3) (Ok tt) (Err Status)) (Err Level)
 
 -- 23: "reinstate on status other than 4"; 36: "point not declared" (02, 2026-06)
-abbrev pub permit_declared : ℕ → Point → Verdict
-permit_declared refusal q = cond (eqb q.status 4) Accept (Refuse refusal)
+abbrev pub permit_declared : CallRefusal → Point → Verdict
+permit_declared refusal q = cond (eqb q.status 4) (Ok tt) (Err refusal)
 
 -- 10: "the point of a unit falls under 10 here" (02, 2026-07). Which aggregate a place is that of is counted from 0
 abbrev pub is_aggregate_at : Plant → ℕ → Bool
 is_aggregate_at plant i = leb plant.units i
 
 abbrev pub permit_target : Plant → ℕ → Verdict
-permit_target plant i = cond (is_aggregate_at plant i) Accept (Refuse 10)
+permit_target plant i = cond (is_aggregate_at plant i) (Ok tt) (Err NoPoint)
 
 abbrev pub aggregate_at : Plant → ℕ → ℕ
 aggregate_at plant i = i - plant.units
@@ -61,9 +59,9 @@ aggregate_at plant i = i - plant.units
 -- what is permitted on the record of the point at a place
 unfoldable pub permit : Plant → ℕ → Operator → Point → Verdict
 permit plant i (declare level) q = permit_declare (is_unidirectional_at plant i) level q
-permit plant i reinstate q = permit_declared 23 q
-permit plant i (ask look) q = Accept
-permit plant i (ask reason) q = permit_declared 36 q
+permit plant i reinstate q = permit_declared NotDeclared q
+permit plant i (ask look) q = Ok tt
+permit plant i (ask reason) q = permit_declared NoReason q
 permit plant i (ask target) q = permit_target plant i
 
 -- "Declare (point, level): status 4, declared at that level, runs 0. Reinstate (point): status 0, runs 0, level 0"
@@ -74,14 +72,15 @@ change (ask question) q = q
 
 -- 10 goes before what the record says, 20 before all
 abbrev pub judge_operator : Plant → Operator → ℕ → Point → Verdict
-judge_operator plant op p q = cond (named plant p) (permit plant (place p) op q) (Refuse 10)
+judge_operator plant op p q = cond (named plant p) (permit plant (place p) op q) (Err NoPoint)
 
--- 20 and 10, which every operator call is tested for
-unfoldable pub locate_of : Monitor → ℕ → Verdict
-locate_of m p = cond (sound_of m) (cond (named (plant_in m) p) Accept (Refuse 10)) (Refuse 20)
+-- 20 and 10, which every operator call is tested for: the roster of a state that passes, and the place of a point that it names
+unfoldable pub locate_of : Monitor → ℕ → Result Located CallRefusal
+locate_of m p =
+    cond (sound_of m) (cond (named (plant_in m) p) (Ok (record { roster = roster_in m; place = place p })) (Err NoPoint)) (Err NoRegister)
 
 unfoldable pub operator_verdict : Operator → Monitor → ℕ → Verdict
-operator_verdict op m p = cond (sound_of m) (judge_operator (plant_in m) op p (point_at m (place p))) (Refuse 20)
+operator_verdict op m p = cond (sound_of m) (judge_operator (plant_in m) op p (point_at m (place p))) (Err NoRegister)
 
 -- a call's own refusals, on the record of the point that it names: "the list above in rising number", here 10 and 11, "then these", here 22, 23
 -- and 36
@@ -106,105 +105,83 @@ operator_refusal op m p =
 unfoldable pub stored : Monitor → ℕ → Point → Monitor
 stored m i q =
     record {
-      loaded = m.loaded;
       roster = m.roster;
-      started = m.started;
       last = m.last;
       kept = m.kept;
       targets = m.targets;
       points = set m.points i q;
     }
 
-unfoldable pub operated_of : Operator → Monitor → ℕ → Stepped
-operated_of op m p =
-    let v = operator_verdict op m p in
-    record { verdict = v; monitor = decide v (λ k. m) (stored m (place p) (change op (point_at m (place p)))) }
+unfoldable pub operated_of : Operator → Monitor → ℕ → Result Monitor CallRefusal
+operated_of op m p = result_and (operator_verdict op m p) (Ok (stored m (place p) (change op (point_at m (place p)))))
 
--- at a place where a point's record stands
-unfoldable pub operated_at : Operator → Monitor → ℕ → Stepped
-operated_at op m i =
-    let v = permit (plant_in m) i op (point_at m i) in
-    record { verdict = v; monitor = decide v (λ k. m) (stored m i (change op (point_at m i))) }
-
-abbrev pub declare_at : Monitor → ℕ → ℤ → Stepped
-declare_at m i level = operated_at (declare level) m i
-
-abbrev pub reinstate_at : Monitor → ℕ → Stepped
-reinstate_at m i = operated_at reinstate m i
-
-unfoldable pub looked_at : Monitor → ℕ → Looked
-looked_at m i = record { verdict = Accept; point = point_at m i; monitor = m }
-
-unfoldable pub reasoned_at : Monitor → ℕ → Reasoned
-reasoned_at m i =
-    let v = permit_declared 36 (point_at m i) in
-    record { verdict = v; reason = decide v (λ k. ByOperator) (point_at m i).reason; monitor = m }
-
-unfoldable pub targeted_at : Monitor → ℕ → Targeted
-targeted_at m i =
-    let v = permit_target (plant_in m) i in
-    record { verdict = v; target = decide v (λ k. no_target) (target_at m (aggregate_at (plant_in m) i)); monitor = m }
-
-abbrev pub declare_of : Monitor → ℕ → ℤ → Stepped
+abbrev pub declare_of : Monitor → ℕ → ℤ → Result Monitor CallRefusal
 declare_of m p level = operated_of (declare level) m p
 
-abbrev pub reinstate_of : Monitor → ℕ → Stepped
+abbrev pub reinstate_of : Monitor → ℕ → Result Monitor CallRefusal
 reinstate_of m p = operated_of reinstate m p
 
--- "Look (point): status, runs, level"; zero values where it is refused. A look changes nothing
-unfoldable pub looked_of : Monitor → ℕ → Looked
-looked_of m p =
-    let v = operator_verdict (ask look) m p in
-    record { verdict = v; point = decide v (λ k. normal) (point_at m (place p)); monitor = m }
+-- "Look (point): status, runs, level". A look changes nothing
+unfoldable pub looked_of : Monitor → ℕ → Result Point CallRefusal
+looked_of m p = result_and (operator_verdict (ask look) m p) (Ok (point_at m (place p)))
 
--- "A new call on a declared point returns small run, large run or operator" (02, 2026-06); the operator, whose numbers are both 0, where
--- it is refused. "Like a look" it changes nothing
-unfoldable pub reasoned_of : Monitor → ℕ → Reasoned
-reasoned_of m p =
-    let v = operator_verdict (ask reason) m p in
-    record { verdict = v; reason = decide v (λ k. ByOperator) (point_at m (place p)).reason; monitor = m }
+-- "A new call on a declared point returns small run, large run or operator" (02, 2026-06). "Like a look" it changes nothing
+unfoldable pub reasoned_of : Monitor → ℕ → Result Reason CallRefusal
+reasoned_of m p = result_and (operator_verdict (ask reason) m p) (Ok (point_at m (place p)).reason)
 
--- "A new call on the aggregate's point returns them" (02, 2026-07), the sums and the flag; zeros and false where it is refused. It changes
--- nothing
-unfoldable pub targeted_of : Monitor → ℕ → Targeted
-targeted_of m p =
-    let v = operator_verdict (ask target) m p in
-    record { verdict = v; target = decide v (λ k. no_target) (target_at m (aggregate_at (plant_in m) (place p))); monitor = m }
+-- "A new call on the aggregate's point returns them" (02, 2026-07), the sums and the flag. It changes nothing
+unfoldable pub targeted_of : Monitor → ℕ → Result Target CallRefusal
+targeted_of m p = result_and (operator_verdict (ask target) m p) (Ok (target_at m (aggregate_at (plant_in m) (place p))))
 
--- the values of a look, status, runs and level: the point's own, "zero values" where it is refused
-unfoldable pub look_values : Verdict → Point → Point
-look_values Accept q = q
-look_values (Refuse k) q = normal
+-- the record that a look tells, status, runs and level: zero values where it is refused
+unfoldable pub look_shown : Result Point CallRefusal → Point
+look_shown (Ok shown) = shown
+look_shown (Err k) = normal
+
+-- the values of a look: the point's own, "zero values" where it is refused
+unfoldable pub look_values : Result Point CallRefusal → Point → Point
+look_values (Ok shown) q = q
+look_values (Err k) q = normal
 
 -- what look promises
-pub record Looks (m : Monitor) (p : ℕ) (r : Looked) : Type 0 where
+pub record Looks (m : Monitor) (p : ℕ) (r : Result Point CallRefusal) : Type 0 where
   pub result : r ≡ looked_of m p
-  pub number : verdict_number r.verdict ≡ operator_refusal (ask look) m p
-  pub values : r.point ≡ look_values r.verdict (point_at m (place p))
+  pub number : result_number r ≡ operator_refusal (ask look) m p
+  pub values : look_shown r ≡ look_values r (point_at m (place p))
 
--- the reason that is told, and its two numbers
-unfoldable pub reason_told : Verdict → Point → Reason
-reason_told Accept q = q.reason
-reason_told (Refuse k) q = ByOperator
+-- the reason that is told; the operator, whose numbers are both 0, where the call is refused
+unfoldable pub reason_shown : Result Reason CallRefusal → Reason
+reason_shown (Ok why) = why
+reason_shown (Err k) = ByOperator
 
-unfoldable pub span_told : Verdict → Point → Span
-span_told Accept q = span_of q.reason
-span_told (Refuse k) q = record { first = 0; last = 0 }
+-- the reason that has to be told, and its two numbers
+unfoldable pub reason_told : Result Reason CallRefusal → Point → Reason
+reason_told (Ok why) q = q.reason
+reason_told (Err k) q = ByOperator
+
+unfoldable pub span_told : Result Reason CallRefusal → Point → Span
+span_told (Ok why) q = span_of q.reason
+span_told (Err k) q = record { first = 0; last = 0 }
 
 -- what reason promises
-pub record Reasons (m : Monitor) (p : ℕ) (r : Reasoned) : Type 0 where
+pub record Reasons (m : Monitor) (p : ℕ) (r : Result Reason CallRefusal) : Type 0 where
   pub result : r ≡ reasoned_of m p
-  pub number : verdict_number r.verdict ≡ operator_refusal (ask reason) m p
-  pub told : r.reason ≡ reason_told r.verdict (point_at m (place p))
-  pub span : span_of r.reason ≡ span_told r.verdict (point_at m (place p))
+  pub number : result_number r ≡ operator_refusal (ask reason) m p
+  pub told : reason_shown r ≡ reason_told r (point_at m (place p))
+  pub span : span_of (reason_shown r) ≡ span_told r (point_at m (place p))
 
--- the target that is told
-unfoldable pub target_told : Verdict → Target → Target
-target_told Accept t = t
-target_told (Refuse k) t = no_target
+-- the target that is told; zeros and false where the call is refused
+unfoldable pub target_shown : Result Target CallRefusal → Target
+target_shown (Ok t) = t
+target_shown (Err k) = no_target
+
+-- the target that has to be told
+unfoldable pub target_told : Result Target CallRefusal → Target → Target
+target_told (Ok told) t = t
+target_told (Err k) t = no_target
 
 -- what target promises
-pub record Targets (m : Monitor) (p : ℕ) (r : Targeted) : Type 0 where
+pub record Targets (m : Monitor) (p : ℕ) (r : Result Target CallRefusal) : Type 0 where
   pub result : r ≡ targeted_of m p
-  pub number : verdict_number r.verdict ≡ operator_refusal (ask target) m p
-  pub told : r.target ≡ target_told r.verdict (target_at m (aggregate_at (plant_in m) (place p)))
+  pub number : result_number r ≡ operator_refusal (ask target) m p
+  pub told : target_shown r ≡ target_told r (target_at m (aggregate_at (plant_in m) (place p)))

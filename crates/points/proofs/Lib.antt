@@ -1,4 +1,3 @@
 -- What belongs to no one function.
 pub mod Lengths16
-pub mod Outcomes
 pub mod Levels

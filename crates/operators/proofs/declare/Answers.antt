@@ -1,28 +1,43 @@
-use Rattle.std.proofs.Common.{◌≡◌, ◌-◌, ◌≤◌, ◌∙◌, refl, sym, ap, arith}
-use Rattle.signed.proofs.Sizes.{back32}
-use Rattle.plants.specs.Plants.{place}
-use Rattle.operators.specs.Operators.{declare, declare_at}
-use Rattle.operators.proofs.Operated.{located, located-units, refused-call, located-call}
-use Rattle.operators.proofs.Refusals.{operator-answered}
+use Rattle.std.proofs.Common.{◌≡◌, ◌∙◌, sym, ap, ap₂, Bool, ℤ, w32}
+use Rattle.std.proofs.lemmas.Result.{err_from_is_err_and}
+use Rattle.std.proofs.lemmas.Int.{to_z-of_z}
+use Rattle.plants.specs.Rosters.{held}
+use Rattle.points.specs.Points.{declared_at}
+use Rattle.points.specs.declared.Reason.TheVariants.{ByOperator}
+use Rattle.intervals.specs.Plants.{is_unidirectional_at}
+use Rattle.intervals.specs.Monitors.{point_at}
+use Rattle.operators.specs.Operators.{permit_declare, permit, change, stored}
+use Rattle.operators.proofs.Operated.{found, judged, unfound}
+use Rattle.operators.proofs.Refusals.{operator-refused, operator-accepted}
 use Rattle.operators.proofs.declare.Goals as goal
-use Rattle.operators.proofs.declare.Goals.{In-Accept}
+use Rattle.operators.proofs.declare.Goals.{After-permit_declare}
 
--- the place of an accepted point
-found : (c : In-Accept) → let p = c.args.point in (1 ≤ p) × (p ≤ 80) × (place p ≡ p - 1)
-found c = located _ _ (sym c.locate-found.ensures ∙ c.in-Accept.is)
+-- what is asked of the point's record
+asked : (c : After-permit_declare)
+    → permit_declare (is_unidirectional_at (held c.in_ok-located.located.roster) c.in_ok-located.located.place) c.args.level
+    (point_at c.args.m c.in_ok-located.located.place)
+    ≡ c.permit_declare.result
+asked c =
+    ap₂ (λ (u : Bool) (z : ℤ). permit_declare u z (point_at c.args.m c.in_ok-located.located.place))
+    (sym c.is_unidirectional.ensures) (sym (to_z-of_z w32 c.args.level c.ranges.level))
+    ∙ sym c.permit_declare.ensures
 
-pub overflow_sub-point : goal.overflow_sub-point
-overflow_sub-point c = (found c).0
+pub returns-in_err-located : goal.returns-in_err-located
+returns-in_err-located c =
+    let p = err_from_is_err_and c.from_residual.result c.from_residual.ensures.1 in
+    rw (p.1, p.2) (operator-refused _ _ _ (unfound _ _ (sym c.locate.ensures.located ∙ c.in_err-located.was) _))
 
-pub declare_at-requires : goal.declare_at-requires
-declare_at-requires c =
-    (omega (arith, found (goal.at.declare_at-requires c).In-Accept), located-units _ _ (sym c.locate-found.ensures ∙ c.in-Accept.is))
+pub returns-in_err-permit_declare : goal.returns-in_err-permit_declare
+unfolding permit
+returns-in_err-permit_declare c =
+    let p = err_from_is_err_and c.from_residual-in_err-permit_declare.result c.from_residual-in_err-permit_declare.ensures.1 in
+    let at = sym c.locate.ensures.located ∙ c.in_ok-located.was in
+    rw (p.1, p.2) (operator-refused _ _ _ (judged _ _ at _ ∙ asked (goal.at.returns-in_err-permit_declare c).After-permit_declare ∙ c.in_err-permit_declare.was))
 
-pub returns-in-Accept : goal.returns-in-Accept
-returns-in-Accept c =
-    let level = back32 c.args.level c.ranges.level in
-    let at = located-call _ _ _ c.locate-found.ensures (declare _) _ c.in-Accept.is refl in
-    operator-answered _ _ (declare _) _ (c.declare_at.ensures ∙ ap (declare_at _ _) level ∙ at)
-
-pub returns-in-Refuse : goal.returns-in-Refuse
-returns-in-Refuse c = operator-answered _ _ (declare _) _ (refused-call _ _ _ c.locate-found.ensures (declare _) _ c.in-Refuse.is)
+pub returns : goal.returns
+unfolding permit change
+returns c =
+    let at = sym c.locate.ensures.located ∙ c.in_ok-located.was in
+    operator-accepted _ _ _ (judged _ _ at _ ∙ asked (goal.at.returns c).After-permit_declare ∙ c.in_ok-permit_declare.was)
+    (c.store.ensures ∙ ap₂ (stored c.args.m) (found _ _ at).place
+    (c.declare.ensures ∙ ap (λ (z : ℤ). declared_at z ByOperator) (to_z-of_z w32 c.args.level c.ranges.level)))

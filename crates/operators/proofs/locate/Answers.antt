@@ -1,29 +1,29 @@
-use Rattle.std.proofs.Common.{◌≡◌, ◌∙◌, sym, true}
-use Rattle.intervals.proofs.States.{units_small, aggregates-small}
-use Rattle.intervals.specs.Plants.{named}
-use Rattle.intervals.specs.Monitors.{plant_in, sound_of}
-use Rattle.operators.proofs.Operated.{named-is}
-use Rattle.operators.specs.Operators.{locate_of}
+use Rattle.std.proofs.Common.{◌≡◌, ◌∙◌, sym}
+use Rattle.std.specs.Prelude.{Some}
+use Rattle.intervals.specs.Monitors.{sound_roster}
+use Rattle.operators.proofs.Operated.{unheld, few, located, inside, unnamed}
 use Rattle.operators.proofs.locate.Goals as goal
-use Rattle.operators.proofs.locate.Goals.{After-is_named}
+use Rattle.operators.proofs.locate.Goals.{In-Some}
 
-sound : (c : After-is_named) → sound_of c.args.m ≡ true
-sound c = sym c.is_sound.ensures ∙ c.if-not-is_sound.false
-
-named_by : (c : After-is_named) → named (plant_in c.args.m) c.args.point ≡ c.is_named.result
-unfolding plant_in
-named_by c = named-is _ _ ∙ sym c.is_named.ensures
+-- the state passes its test
+passes : (c : In-Some) → Some c.in-Some.roster ≡ sound_roster c.args.m.now
+passes c = sym c.in-Some.is ∙ c.sound_roster.ensures
 
 pub is_named-requires : goal.is_named-requires
-is_named-requires c =
-    let sound = sym c.is_sound.ensures ∙ c.if-not-is_sound.false in
-    (units_small _ sound, aggregates-small _ sound)
+is_named-requires c = few _ c.args.point (passes (goal.at.is_named-requires c).In-Some)
+
+pub returns-in_default : goal.returns-in_default
+returns-in_default c = record { located = sym (unheld _ _ (sym c.in_default.is ∙ c.sound_roster.ensures)); within = tt }
 
 pub returns-then-not-is_named : goal.returns-then-not-is_named
-unfolding locate_of
 returns-then-not-is_named c =
-    let s = (goal.at.returns-then-not-is_named c).After-is_named in rw (sound s, named_by s ∙ c.if-not-is_named.true)
+    let lent = passes (goal.at.returns-then-not-is_named c).In-Some in
+    record { located = sym (unnamed _ _ lent c.is_named.ensures c.if-not-is_named.true); within = tt }
 
 pub returns : goal.returns
-unfolding locate_of
-returns c = let s = (goal.at.returns c).After-is_named in rw (sound s, named_by s ∙ c.if-not-is_named.false)
+returns c =
+    let lent = passes (goal.at.returns c).In-Some in
+    record {
+      located = sym (located _ _ lent c.is_named.ensures c.if-not-is_named.false);
+      within = ((few _ c.args.point lent).0, inside _ _ lent c.is_named.ensures c.if-not-is_named.false);
+    }

@@ -1,24 +1,18 @@
-use Rattle.std.proofs.Common.{◌≡◌, ◌-◌, ◌≤◌, ◌∙◌, refl, sym, arith}
-use Rattle.plants.specs.Plants.{place}
-use Rattle.operators.proofs.Operated.{located, refused-look, located-look}
-use Rattle.operators.proofs.Refusals.{looks}
+use Rattle.std.proofs.Common.{◌∙◌, sym, ap}
+use Rattle.std.proofs.lemmas.Result.{err_from_is_err_and}
+use Rattle.intervals.specs.Monitors.{point_at}
+use Rattle.operators.specs.Operators.{permit}
+use Rattle.operators.proofs.Operated.{found, judged, unfound}
+use Rattle.operators.proofs.Refusals.{look-refused, look-accepted}
 use Rattle.operators.proofs.look.Goals as goal
-use Rattle.operators.proofs.look.Goals.{In-Accept}
 
--- the place of an accepted point
-found : (c : In-Accept) → let p = c.args.point in (1 ≤ p) × (p ≤ 80) × (place p ≡ p - 1)
-found c = located _ _ (sym c.locate-found.ensures ∙ c.in-Accept.is)
+pub returns-in_err-located : goal.returns-in_err-located
+returns-in_err-located c =
+    let p = err_from_is_err_and c.from_residual.result c.from_residual.ensures.1 in
+    rw (p.1, p.2) (look-refused _ _ (unfound _ _ (sym c.locate.ensures.located ∙ c.in_err-located.was) _))
 
-pub overflow_sub-point : goal.overflow_sub-point
-overflow_sub-point c = (found c).0
-
-pub look_at-requires : goal.look_at-requires
-look_at-requires c = omega (arith, found (goal.at.look_at-requires c).In-Accept)
-
-pub returns-in-Accept : goal.returns-in-Accept
-returns-in-Accept c =
-    looks _ _ _ (c.look_at.ensures ∙ located-look _ _ _ c.locate-found.ensures _ c.in-Accept.is refl)
-
-pub returns-in-Refuse : goal.returns-in-Refuse
-returns-in-Refuse c =
-    looks _ _ _ (rw c.normal_point.ensures (refused-look _ _ _ c.locate-found.ensures _ c.in-Refuse.is))
+pub returns : goal.returns
+unfolding permit
+returns c =
+    let at = sym c.locate.ensures.located ∙ c.in_ok-located.was in
+    look-accepted _ _ (judged _ _ at _) (ap (point_at c.args.m) (found _ _ at).place)

@@ -1,23 +1,26 @@
-use Rattle.std.proofs.Common.{◌≡◌, ◌-◌, ◌≤◌, ◌∙◌, refl, sym, arith}
-use Rattle.plants.specs.Plants.{place}
-use Rattle.operators.proofs.Operated.{located, refused-reason, located-reason}
-use Rattle.operators.proofs.Refusals.{reasons}
+use Rattle.std.proofs.Common.{◌∙◌, sym, ap, ℕ}
+use Rattle.std.proofs.lemmas.Result.{err_from_is_err_and}
+use Rattle.intervals.specs.Monitors.{point_at}
+use Rattle.operators.specs.Operators.{permit}
+use Rattle.operators.proofs.Operated.{found, judged, unfound}
+use Rattle.operators.proofs.Refusals.{reason-refused, reason-accepted}
 use Rattle.operators.proofs.reason.Goals as goal
-use Rattle.operators.proofs.reason.Goals.{In-Accept}
 
--- the place of an accepted point
-found : (c : In-Accept) → let p = c.args.point in (1 ≤ p) × (p ≤ 80) × (place p ≡ p - 1)
-found c = located _ _ (sym c.locate-found.ensures ∙ c.in-Accept.is)
+pub returns-in_err-located : goal.returns-in_err-located
+returns-in_err-located c =
+    let p = err_from_is_err_and c.from_residual.result c.from_residual.ensures.1 in
+    rw (p.1, p.2) (reason-refused _ _ (unfound _ _ (sym c.locate.ensures.located ∙ c.in_err-located.was) _))
 
-pub overflow_sub-point : goal.overflow_sub-point
-overflow_sub-point c = (found c).0
+pub returns-in_err-permit_declared : goal.returns-in_err-permit_declared
+unfolding permit
+returns-in_err-permit_declared c =
+    let p = err_from_is_err_and c.from_residual-in_err-permit_declared.result c.from_residual-in_err-permit_declared.ensures.1 in
+    let at = sym c.locate.ensures.located ∙ c.in_ok-located.was in
+    rw (p.1, p.2) (reason-refused _ _ (judged _ _ at _ ∙ sym c.permit_declared.ensures ∙ c.in_err-permit_declared.was))
 
-pub reason_at-requires : goal.reason_at-requires
-reason_at-requires c = omega (arith, found (goal.at.reason_at-requires c).In-Accept)
-
-pub returns-in-Accept : goal.returns-in-Accept
-returns-in-Accept c =
-    reasons _ _ _ (c.reason_at.ensures ∙ located-reason _ _ _ c.locate-found.ensures _ c.in-Accept.is refl)
-
-pub returns-in-Refuse : goal.returns-in-Refuse
-returns-in-Refuse c = reasons _ _ _ (refused-reason _ _ _ c.locate-found.ensures _ c.in-Refuse.is)
+pub returns : goal.returns
+unfolding permit
+returns c =
+    let at = sym c.locate.ensures.located ∙ c.in_ok-located.was in
+    reason-accepted _ _ (judged _ _ at _ ∙ sym c.permit_declared.ensures ∙ c.in_ok-permit_declared.was)
+    (ap (λ (i : ℕ). (point_at c.args.m i).reason) (found _ _ at).place)

@@ -1,25 +1,25 @@
-use Rattle.std.proofs.Common.{◌≡◌, ◌-◌, ◌≤◌, ◌∙◌, refl, sym, arith}
-use Rattle.plants.specs.Plants.{place}
-use Rattle.operators.specs.Operators.{reinstate}
-use Rattle.operators.proofs.Operated.{located, refused-call, located-call}
-use Rattle.operators.proofs.Refusals.{operator-answered}
+use Rattle.std.proofs.Common.{◌∙◌, sym, ap₂}
+use Rattle.std.proofs.lemmas.Result.{err_from_is_err_and}
+use Rattle.operators.specs.Operators.{permit, change, stored}
+use Rattle.operators.proofs.Operated.{found, judged, unfound}
+use Rattle.operators.proofs.Refusals.{operator-refused, operator-accepted}
 use Rattle.operators.proofs.reinstate.Goals as goal
-use Rattle.operators.proofs.reinstate.Goals.{In-Accept}
 
--- the place of an accepted point
-found : (c : In-Accept) → let p = c.args.point in (1 ≤ p) × (p ≤ 80) × (place p ≡ p - 1)
-found c = located _ _ (sym c.locate-found.ensures ∙ c.in-Accept.is)
+pub returns-in_err-located : goal.returns-in_err-located
+returns-in_err-located c =
+    let p = err_from_is_err_and c.from_residual.result c.from_residual.ensures.1 in
+    rw (p.1, p.2) (operator-refused _ _ _ (unfound _ _ (sym c.locate.ensures.located ∙ c.in_err-located.was) _))
 
-pub overflow_sub-point : goal.overflow_sub-point
-overflow_sub-point c = (found c).0
+pub returns-in_err-permit_declared : goal.returns-in_err-permit_declared
+unfolding permit
+returns-in_err-permit_declared c =
+    let p = err_from_is_err_and c.from_residual-in_err-permit_declared.result c.from_residual-in_err-permit_declared.ensures.1 in
+    let at = sym c.locate.ensures.located ∙ c.in_ok-located.was in
+    rw (p.1, p.2) (operator-refused _ _ _ (judged _ _ at _ ∙ sym c.permit_declared.ensures ∙ c.in_err-permit_declared.was))
 
-pub reinstate_at-requires : goal.reinstate_at-requires
-reinstate_at-requires c = omega (arith, found (goal.at.reinstate_at-requires c).In-Accept)
-
-pub returns-in-Accept : goal.returns-in-Accept
-returns-in-Accept c =
-    let at = located-call _ _ _ c.locate-found.ensures reinstate _ c.in-Accept.is refl in
-    operator-answered _ _ reinstate _ (c.reinstate_at.ensures ∙ at)
-
-pub returns-in-Refuse : goal.returns-in-Refuse
-returns-in-Refuse c = operator-answered _ _ reinstate _ (refused-call _ _ _ c.locate-found.ensures reinstate _ c.in-Refuse.is)
+pub returns : goal.returns
+unfolding permit change
+returns c =
+    let at = sym c.locate.ensures.located ∙ c.in_ok-located.was in
+    operator-accepted _ _ _ (judged _ _ at _ ∙ sym c.permit_declared.ensures ∙ c.in_ok-permit_declared.was)
+    (c.store.ensures ∙ ap₂ (stored c.args.m) (found _ _ at).place c.reinstate.ensures)

@@ -1,24 +1,27 @@
-use Rattle.std.proofs.Common.{◌≡◌, ◌∙◌, refl, sym}
-use Rattle.intervals.specs.declared.Verdict.TheVariants.{Accept}
-use Rattle.operators.specs.Operators.{locate_of}
-use Rattle.operators.proofs.Operated.{located, located-below, refused-target, located-target}
-use Rattle.operators.proofs.Refusals.{targets}
+use Rattle.std.proofs.Common.{◌∙◌, sym, ap}
+use Rattle.std.proofs.lemmas.Result.{err_from_is_err_and}
+use Rattle.intervals.specs.Monitors.{target_at}
+use Rattle.operators.specs.Operators.{permit}
+use Rattle.operators.proofs.Operated.{judged, unfound, aggregate-of, permitted-target, refused-target}
+use Rattle.operators.proofs.Refusals.{target-refused, target-accepted}
 use Rattle.operators.proofs.target.Goals as goal
-use Rattle.operators.proofs.target.Goals.{In-Accept}
 
-found : (c : In-Accept) → locate_of c.args.m c.args.point ≡ Accept
-found c = sym c.locate-found.ensures ∙ c.in-Accept.is
+pub returns-in_err-located : goal.returns-in_err-located
+returns-in_err-located c =
+    let p = err_from_is_err_and c.from_residual.result c.from_residual.ensures.1 in
+    rw (p.1, p.2) (target-refused _ _ (unfound _ _ (sym c.locate.ensures.located ∙ c.in_err-located.was) _))
 
-pub overflow_sub-point : goal.overflow_sub-point
-overflow_sub-point c = (located _ _ (found c)).0
+pub returns-in_err-aggregate : goal.returns-in_err-aggregate
+unfolding permit
+returns-in_err-aggregate c =
+    let p = err_from_is_err_and c.from_residual-in_err-aggregate.result c.from_residual-in_err-aggregate.ensures.1 in
+    let at = sym c.locate.ensures.located ∙ c.in_ok-located.was in
+    let refused = refused-target c.in_ok-located.located.roster _ _ c.checked_sub.ensures (sym c.ok_or.ensures.value ∙ c.in_err-aggregate.was) in
+    rw (p.1, p.2) (target-refused _ _ (judged _ _ at _ ∙ refused))
 
-pub target_at-requires : goal.target_at-requires
-target_at-requires c = located-below _ _ (found (goal.at.target_at-requires c).In-Accept)
-
-pub returns-in-Accept : goal.returns-in-Accept
-returns-in-Accept c =
-    targets _ _ _ (c.target_at.ensures ∙ located-target _ _ _ c.locate-found.ensures _ c.in-Accept.is refl)
-
-pub returns-in-Refuse : goal.returns-in-Refuse
-returns-in-Refuse c =
-    targets _ _ _ (rw c.no_target.ensures (refused-target _ _ _ c.locate-found.ensures _ c.in-Refuse.is))
+pub returns : goal.returns
+unfolding permit
+returns c =
+    let at = sym c.locate.ensures.located ∙ c.in_ok-located.was in
+    let is = permitted-target c.in_ok-located.located.roster _ _ c.checked_sub.ensures (sym c.ok_or.ensures.value ∙ c.in_ok-aggregate.was) in
+    target-accepted _ _ (judged _ _ at _ ∙ is.0) (ap (target_at c.args.m) (is.1 ∙ sym (aggregate-of _ _ at)))
