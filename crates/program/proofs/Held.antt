@@ -15,14 +15,16 @@ use mir.Val.{SFits}
 use Rattle.trace.proofs.Tests.{chosen}
 use Rattle.signed.proofs.Sizes.{size_fits}
 use Rattle.signed.proofs.Floors.{floored-size}
-use Rattle.telemetry.specs.declared.Line.{Line}
-use Rattle.telemetry.specs.declared.Line.TheVariants.{Readable, Unreadable}
+use Rattle.std.specs.Prelude.{Option, Some, None}
+use Rattle.kinds.specs.declared.Kind.{Kind}
+use Rattle.telemetry.specs.Lines.{power_of}
+use Rattle.telemetry.specs.declared.Fields.{Fields}
 use Rattle.plants.specs.Plants.{elem}
 use Rattle.plants.specs.Rosters.{stretch_of}
 use Rattle.plants.proofs.Stretches.{stretch-few, member-inside}
-use Rattle.marks.specs.Assessments.{is_known, is_uncapped, judged, without, unit_basis, known_assessment, readable_assessment, line_assessment, unit_assessment}
+use Rattle.marks.specs.Assessments.{is_missing, is_uncapped, judged, without, unit_basis, known_assessment, kept_assessment, readable_assessment, line_assessment, unit_assessment}
 use Rattle.aggregates.specs.Aggregates.{no_sums, add_member, add_members, aggregate_basis, sums_assessment, aggregate_assessment}
-use Rattle.marks.specs.Bounds.{SmallLine, SmallKept, SmallSight, SmallBasis}
+use Rattle.marks.specs.Bounds.{SmallFields, SmallLine, SmallKept, SmallSight, SmallBasis}
 use Rattle.aggregates.specs.Sizes.{SmallSums}
 use Rattle.aggregates.specs.Views.{view_of}
 use Rattle.marks.specs.declared.Assessment.{Assessment}
@@ -40,7 +42,7 @@ use Rattle.points.specs.declared.Point.{Point}
 use Rattle.points.proofs.Levels.{level-after}
 use Rattle.intervals.specs.Plants.{total}
 use Rattle.intervals.specs.Assessments.{header_of, number_of, is_automatic, rule_of, sight_at, assessment_at}
-use Rattle.intervals.specs.Monitors.{plant_in, kept_at, point_at, sound_of}
+use Rattle.intervals.specs.Monitors.{roster_in, plant_in, kept_at, point_at, sound_of}
 use Rattle.intervals.specs.Intervals.{fresh_in, assessment_in, point_after}
 use Rattle.intervals.specs.declared.Monitor.{Monitor}
 use Rattle.intervals.proofs.States.{roster-sound, sight-small}
@@ -76,12 +78,18 @@ either : (b : Bool) {x y : Assessment} → SmallAssessment x → SmallAssessment
 either b = chosen SmallAssessment b _ _
 
 -- a unit's, and an aggregate's from its sums
-unit-assessed : (kind : ℕ) (chained : Bool) (l : Line) (k : Kept) → SmallLine l → SmallKept k → SmallAssessment (line_assessment kind chained l k)
-unfolding readable_assessment known_assessment
-unit-assessed kind chained (Readable f) k s t =
+kept-assessed : (kind : Option Kind) (f : Fields) (k : Option Kept) → SmallFields f → SmallKept k → SmallAssessment (kept_assessment kind f k)
+unfolding known_assessment
+kept-assessed kind f (Some k) s t =
     let known = either (is_uncapped kind k.capped) (without-small Off) (judged-small (unit_basis kind f k) (unit-small kind f k s t)) in
-    either (chained && not (eqb f.mode 2)) (without-small Off) (either (is_known f k) known (without-small Blank))
-unit-assessed kind chained Unreadable k s t = without-small Blank
+    either (is_missing (power_of f)) (without-small Blank) known
+kept-assessed kind f None s t = without-small Blank
+
+unit-assessed : (kind : Option Kind) (chained : Bool) (l : Option Fields) (k : Option Kept) → SmallLine l → SmallKept k
+    → SmallAssessment (line_assessment kind chained l k)
+unfolding readable_assessment
+unit-assessed kind chained (Some f) k s t = either (chained && not (eqb f.mode 2)) (without-small Off) (kept-assessed kind f k s t)
+unit-assessed kind chained None k s t = without-small Blank
 
 sums-assessed : (s : Sums) → SmallSums 130000000 s → SmallAssessment (sums_assessment s)
 unfolding sums_assessment
@@ -109,26 +117,26 @@ module _ (m : Monitor) (sound : sound_of m ≡ true) (buffer : List ℕ) where
   -- every point's assessment
   small-in : (i : ℕ) → i < total (plant_in m) → SmallAssessment (assessment_in m buffer i)
   unfolding assessment_in assessment_at unit_assessment plant_in
-  small-in i l = go (ltb i m.roster.units) refl
+  small-in i l = go (ltb i (roster_in m).units) refl
     where
-      seen : (j : ℕ) → j < m.roster.units → SmallSight (sight j)
+      seen : (j : ℕ) → j < (roster_in m).units → SmallSight (sight j)
       seen = sight-small m sound (fresh_in m buffer) buffer
 
-      go : (b : Bool) → ltb i m.roster.units ≡ b
+      go : (b : Bool) → ltb i (roster_in m).units ≡ b
           → SmallAssessment
           (cond b
-          (unit_assessment (get_or m.roster.chained i false) (sight i))
-          (aggregate_assessment (map sight (stretch_of m.roster (i - m.roster.units)))))
+          (unit_assessment (get_or (roster_in m).chained i false) (sight i))
+          (aggregate_assessment (map sight (stretch_of (roster_in m) (i - (roster_in m).units)))))
       go true e =
-          let v = seen i (ltb-true i m.roster.units e) in
-          unit-assessed (sight i).kind (get_or m.roster.chained i false) (sight i).line (sight i).kept v.line v.kept
+          let v = seen i (ltb-true i (roster_in m).units e) in
+          unit-assessed (sight i).kind (get_or (roster_in m).chained i false) (sight i).line (sight i).kept v.line v.kept
       go false e =
-          let j = i - m.roster.units in
-          let inside : j < m.roster.aggregates = omega (arith, ltb-false) in
-          let few = stretch-few m.roster (roster-sound m sound) j inside in
-          let member = member-inside m.roster (roster-sound m sound) j inside in
-          sums-assessed (add_members no_sums (map sight (stretch_of m.roster j)))
-          (wider (omega arith) (members-small sight (stretch_of m.roster j) no_sums (λ u e. seen u (member u e)) no-sums-small))
+          let j = i - (roster_in m).units in
+          let inside : j < (roster_in m).aggregates = omega (arith, ltb-false) in
+          let few = stretch-few (roster_in m) (roster-sound m sound) j inside in
+          let member = member-inside (roster_in m) (roster-sound m sound) j inside in
+          sums-assessed (add_members no_sums (map sight (stretch_of (roster_in m) j)))
+          (wider (omega arith) (members-small sight (stretch_of (roster_in m) j) no_sums (λ u e. seen u (member u e)) no-sums-small))
 
   level_in : (i : ℕ) → i < total (plant_in m) → SFits w32 (point_at m i).level → SFits w32 (point_after m buffer i).level
   unfolding point_after

@@ -1,11 +1,10 @@
 -- What the text of a report shows: the very values of each point that 01 names. Assumes nothing.
-use mathlib.Core.Path.{◌≡◌, ap, ◌∙◌}
+use mathlib.Core.Path.{◌≡◌, refl, ap, ◌∙◌}
 use mathlib.Core.Bool.{true}
 use mathlib.Core.List.{List, [], ◌∷◌}
 use Prim.Native.Nat.{ℕ, suc, ◌/◌, ◌^◌, ◌<◌}
 use native.Mathlib.Nat.{mod-eq_of_lt}
 use native.Mathlib.Omega.{arith}
-use borrow.Author.Tests.{eqb-true}
 use lib.IntN.{ℤ}
 use lib.ListN.{length}
 use mir.Syntax.{w32}
@@ -23,14 +22,14 @@ use Rattle.points.proofs.Lengths16.{length-record}
 use Rattle.intervals.specs.Plants.{total}
 use Rattle.intervals.specs.Assessments.{header_of, number_of as interval_number}
 use Rattle.intervals.specs.Monitors.{plant_in, point_at}
-use Rattle.intervals.specs.Intervals.{verdict_number, interval_verdict, interval_of, assessment_in, point_after, record_after, report_of}
+use Rattle.intervals.specs.Intervals.{Verdict, interval_verdict, interval_of, assessment_in, point_after, record_after, report_of}
 use Rattle.intervals.specs.declared.Monitor.{Monitor}
-use Rattle.intervals.specs.declared.Verdict.TheVariants.{Accept}
-use Rattle.intervals.proofs.Refusals.{interval-told}
+use Rattle.std.specs.Prelude.{Ok, Err}
+use Rattle.std.specs.Result.{result_and}
 use Rattle.intervals.proofs.Verdicts.{ready}
 use Rattle.text.specs.Numbers.{decimal_of, whole_of}
 use Rattle.text.specs.Lines.{line, line_of, line_at, lines_of}
-use Rattle.program.specs.Steps.{blank, taken_from, step_of}
+use Rattle.program.specs.Steps.{blank, taken_by, taken_from, step_of}
 use Rattle.program.proofs.Held.{Held, held_in}
 
 -- "interval, point, then status, mark, small run, large run, error, trigger, level, with one space between"
@@ -74,17 +73,22 @@ lines-shown interval k a p held =
     (records-same (line_at interval (records f k)) (λ i. shown_of interval (suc i) (a i) (p i)) k λ i l.
     rw (record-at f 16 sized k i l) (line-shown interval (suc i) (a i) (p i) (held i l)))
 
+-- the run goes on only where the interval is accepted
+goes-on : (m n : Monitor) (text : List ℕ) (v : Verdict) → (taken_by m text (result_and v (Ok n))).more ≡ true → v ≡ Ok tt
+goes-on m n text (Ok x) e = refl
+goes-on m n text (Err k) e = absurd (cc)
+
 -- A step of the program, where the run goes on: its text is a line for each point, which shows the point's values after the interval.
 -- A stored level is an i32.
 pub step-shown : (m : Monitor) (buffer : List ℕ) → ((i : ℕ) → i < total (plant_in m) → SFits w32 (point_at m i).level) → (step_of m buffer).more ≡ true
     → (step_of m buffer).text
     ≡ records (λ i. shown_of (interval_number (header_of buffer)) (suc i) (assessment_in m buffer i) (point_after m buffer i)) (total (plant_in m))
-unfolding step_of taken_from interval_of report_of record_after verdict_number
-step-shown m [] stored e = absurd (let z : ◌≡◌ {A = ℕ} 0 1 = cc in omega arith)
+unfolding step_of taken_from interval_of report_of record_after
+step-shown m [] stored e = absurd (cc)
 step-shown m (byte ∷ bytes) stored e =
     let buffer = byte ∷ bytes in
     let size = length (blank m) in
-    let accepted : interval_verdict m buffer size ≡ Accept = interval-told m buffer size (eqb-true (verdict_number (interval_verdict m buffer size)) 0 e) in
+    let accepted : interval_verdict m buffer size ≡ Ok tt = goes-on m _ _ (interval_verdict m buffer size) e in
     rw accepted
     (lines-shown (interval_number (header_of buffer)) (total (plant_in m)) (assessment_in m buffer) (point_after m buffer)
     λ i l. held_in m (ready m buffer size accepted).sound buffer i l (stored i l))

@@ -28,4 +28,4 @@ goes_on (targeted t) = true
 
 -- a step that comes to a next state, after a buffer with this outcome
 abbrev pub shown_by : Monitor → List ℕ → Outcome → Step
-shown_by m buffer outcome = record { monitor = m; more = goes_on outcome; text = program_text buffer outcome }
+shown_by m buffer outcome = record { state = m; more = goes_on outcome; text = program_text buffer outcome }

@@ -1,18 +1,13 @@
 // A step of the program (01, "The program"): the next state, whether the run goes on, and the text to write.
 #![tactic(auto)]
 
-ghost use Rattle.std.specs.Prelude.{◌≡◌, min, length};
-ghost use Rattle.program.specs.Steps.{room_of, size_of, start_of, step_of, taken_from, Steps};
+ghost use Rattle.std.specs.Prelude.{◌≡◌, length};
+ghost use Rattle.turns.specs.Steps.{Steps};
+ghost use Rattle.program.specs.Steps.{room_of, size_of, refused, start_of, step_of, taken_from};
 
 use monitor::Monitor;
-
-// The text is the first `length` bytes of the buffer that was lent.
-#[derive(Clone, Copy)]
-pub struct Turn {
-    pub monitor: Monitor,
-    pub more: bool,
-    pub length: usize,
-}
+use text::Field;
+use turns::Turn;
 
 // Room for the text of any step.
 pub fn room() -> [u8; 8192]
@@ -21,92 +16,61 @@ pub fn room() -> [u8; 8192]
     [0; 8192]
 }
 
-fn least(a: usize, b: usize) -> usize
-    ensures { result ≡ min a b }
-{
-    if a <= b { a } else { b }
-}
-
 // The bytes of an interval. No register has more than 64 units.
 pub fn interval_size(m: Monitor) -> usize
     ensures { result ≡ size_of m }
 {
-    let roster = m.roster;
-    8 + 40 * least(64, roster.units)
+    8 + 40 * m.roster.unwrap_or_default().units.min(64)
 }
 
 // The bytes of its report. No register has more than 16 aggregates.
-fn report_size(m: Monitor) -> usize
-    ensures { result ≡ room_of m }
+fn report_size(m: &Monitor) -> usize
+    ensures { result ≡ room_of m.now }
 {
-    let roster = m.roster;
-    16 * (least(64, roster.units) + least(16, roster.aggregates))
+    let roster = m.roster.unwrap_or_default();
+    16 * (roster.units.min(64) + roster.aggregates.min(16))
+}
+
+// A refusal, by its number.
+fn refuse(m: Monitor, number: u32, out: &mut [u8; 8192]) -> Turn<Monitor>
+    ensures { Steps (refused m number) result out.old out.new }
+{
+    let length = text::put_line(out, 0, &[Field::Words(b"refused"), Field::U32(number)]);
+    Turn::ends(m, length)
 }
 
 // The register: one that is refused is all that is printed.
-pub fn start(register: &[u8], out: &mut [u8; 8192]) -> Turn
+pub fn start(register: &[u8], out: &mut [u8; 8192]) -> Turn<Monitor>
     ensures { Steps (start_of register.now) result out.old out.new }
 {
-    let loaded = monitor::load(monitor::new_monitor(), register);
-    let answer = loaded.answer;
-    let number = answer.number();
-    let monitor = loaded.monitor;
-    if number == 0 {
-        return Turn {
-            monitor,
-            more: true,
-            length: 0,
-        };
-    }
-    Turn {
-        monitor,
-        more: false,
-        length: text::put_numbered(out, 0, b"refused", number as u64),
+    match monitor::load(register) {
+        Ok(loaded) => Turn::continues(loaded.monitor, 0),
+        Err(refusal) => refuse(Monitor::begin(None), u32::from(refusal), out),
     }
 }
 
 // An interval whose report has its place.
-fn take(m: Monitor, buffer: &[u8], report: &mut [u8], out: &mut [u8; 8192]) -> Turn
+fn take(m: Monitor, buffer: &[u8], report: &mut [u8], out: &mut [u8; 8192]) -> Turn<Monitor>
     requires { length report.old ≡ room_of m }
     ensures { Steps (taken_from m buffer.now report.old) result out.old out.new }
 {
-    let stepped = monitor::interval(m, buffer, report);
-    let verdict = stepped.verdict;
-    let number = verdict.number();
-    let monitor = stepped.monitor;
-    if number == 0 {
-        return Turn {
-            monitor,
-            more: true,
-            length: text::put_report(out, 0, monitor.last, report),
-        };
+    match monitor::interval(m, buffer, report) {
+        Ok(next) => {
+            let length = text::put_report(out, 0, wire::word_at(buffer, 0), report);
+            Turn::continues(next, length)
+        }
+        Err(refusal) => refuse(m, u32::from(refusal), out),
     }
-    Turn {
-        monitor,
-        more: false,
-        length: text::put_numbered(out, 0, b"refused", number as u64),
-    }
-}
-
-// Room for the longest report. The `ensures` gives the length, which lending a part of the array needs.
-fn longest_report() -> [u8; 1280]
-    ensures { 1280 ≡ length result }
-{
-    [0; 1280]
 }
 
 // The bytes that were read for an interval: none at the end of the file, and a last buffer that is short is passed on as it is.
-pub fn step(m: Monitor, buffer: &[u8], out: &mut [u8; 8192]) -> Turn
+pub fn step(m: Monitor, buffer: &[u8], out: &mut [u8; 8192]) -> Turn<Monitor>
     ensures { Steps (step_of m buffer.now) result out.old out.new }
 {
-    if buffer.len() == 0 {
-        return Turn {
-            monitor: m,
-            more: false,
-            length: 0,
-        };
+    if buffer.is_empty() {
+        return Turn::ends(m, 0);
     }
-    let size = report_size(m);
-    let mut report = longest_report();
+    let mut report = [0; 1280];
+    let size = report_size(&m);
     take(m, buffer, &mut report[..size], out)
 }

@@ -1,4 +1,3 @@
--- What belongs to no one function. Told ties the text to demand 3; the functions' proofs use Answers and Readings alone.
-pub mod Answers
+-- What belongs to no one function. Told ties the text to demand 3; the functions' proofs use Readings alone.
 pub mod Readings
 pub mod Told

@@ -6,11 +6,13 @@
 --   5 look        u32 point
 --   6 reason      u32 point
 --   7 target      u32 point
-use Rattle.std.specs.Prelude.{Bool, cond, ◌&&◌, List, ℕ, leb, eqb, length, drop, replicate}
+use Rattle.std.specs.Prelude.{Bool, cond, ◌&&◌, List, ℕ, ◌≤◌, leb, eqb, length, drop, replicate, Option, Some, None}
 use Rattle.wire.specs.Fields.{word_at, whole_at}
 use Rattle.frames.specs.Frames.{is_frame}
 use Rattle.operators.specs.Operators.{declare, reinstate, ask, look, reason, target}
 use Rattle.monitor.specs.Calls.{Call, interval, operate}
+use Rattle.script.specs.declared.reading.Call.{Call as Read}
+use Rattle.script.specs.declared.reading.Call.TheVariants.{Load, Interval, Declare, Reinstate, Look, Reason, Target}
 
 -- a load, a call of demand 3's lists, or bytes that are neither
 pub data Item : Type 0 where
@@ -50,3 +52,27 @@ payload_item tag payload = cond (eqb tag 1) (loads payload) (cond (eqb tag 2) (i
 
 unfoldable pub item_of : List ℕ → Item
 item_of bytes = when (is_frame bytes) (payload_item (word_at bytes 0) (drop 8 bytes))
+
+-- what the code makes of a call's bytes: the report buffer of an interval is told by its length
+abbrev pub item_by : Read → Item
+item_by (Load register) = loads register.now
+item_by (Interval room buffer) = calls (interval buffer.now (replicate room 0))
+item_by (Declare point level) = calls (operate (declare level) point)
+item_by (Reinstate point) = calls (operate reinstate point)
+item_by (Look point) = calls (operate (ask look) point)
+item_by (Reason point) = calls (operate (ask reason) point)
+item_by (Target point) = calls (operate (ask target) point)
+
+abbrev pub item_read : Option Read → Item
+item_read (Some call) = item_by call
+item_read None = unreadable
+
+-- that length is no greater than the longest
+abbrev pub HasRoom : Read → Type 0
+HasRoom (Load register) = Unit {0}
+HasRoom (Interval room buffer) = room ≤ longest_report
+HasRoom (Declare point level) = Unit {0}
+HasRoom (Reinstate point) = Unit {0}
+HasRoom (Look point) = Unit {0}
+HasRoom (Reason point) = Unit {0}
+HasRoom (Target point) = Unit {0}

@@ -1,46 +1,47 @@
 // The calls: each is made in a state, and its answer put into a buffer.
-ghost use Rattle.std.specs.Prelude.{◌≡◌, ◌+◌, ◌≤◌, length};
+ghost use Rattle.std.specs.Prelude.{◌≡◌, ◌+◌, ◌≤◌, length, replicate};
+ghost use Rattle.turns.specs.Steps.{Steps};
 ghost use Rattle.operators.specs.Operators.{declare, reinstate, ask, look, reason, target};
 ghost use Rattle.monitor.specs.Calls.{interval, operate};
+ghost use Rattle.text.specs.Lines.{line};
 ghost use Rattle.text.specs.Puts.{Put};
-ghost use Rattle.program.specs.Steps.{Steps};
-ghost use Rattle.script.specs.Texts.{answered_by, accepted_text, reason_line, bit_of, target_line};
-ghost use Rattle.script.specs.Steps.{made_load, made_call};
+ghost use Rattle.text.specs.Fields.{texts, longest_line_of};
+ghost use Rattle.script.specs.Texts.{accepted_text, reason_words, refused_by};
+ghost use Rattle.script.specs.Steps.{answered, made_load, made_call};
 
-use monitor::Monitor;
+use monitor::{CallRefusal, Monitor};
 use points::Reason;
-use program::Turn;
-use targets::Target;
+use text::Field::{self, I32, U8, U32, Words};
+use turns::Turn;
 
-// A line for an accepted call, or words and the refusal's number.
-fn put_answer(out: &mut [u8], number: u32, accepted: &[u8], refused: &[u8]) -> usize
-    requires { (length accepted.now ≤ length out.old) × (length refused.now + 22 ≤ length out.old) }
-    ensures { Put out.old 0 (answered_by number accepted.now refused.now) result out.new }
+// A call that is answered by a line, and the state after it.
+fn answer(m: Monitor, fields: &[Field], out: &mut [u8; 8192]) -> Turn<Monitor>
+    requires { longest_line_of fields.now ≤ 8192 }
+    ensures { Steps (answered m (line (texts fields.now))) result out.old out.new }
 {
-    if number == 0 {
-        return text::put_bytes(out, 0, accepted);
-    }
-    text::put_numbered(out, 0, refused, number as u64)
+    let length = text::put_line(out, 0, fields);
+    Turn::continues(m, length)
 }
 
-pub(crate) fn load(m: Monitor, register: &[u8], out: &mut [u8; 8192]) -> Turn
+// A refusal: these words, and its number.
+fn refuse(m: Monitor, words: &[u8], refusal: CallRefusal, out: &mut [u8; 8192]) -> Turn<Monitor>
+    requires { length words.now ≤ 20 }
+    ensures { Steps (answered m (refused_by words.now refusal)) result out.old out.new }
+{
+    answer(m, &[Words(words), U32(u32::from(refusal))], out)
+}
+
+#[tactic(auto, unfolding(crate::specs::Texts::load_text))]
+pub(crate) fn load(m: Monitor, register: &[u8], out: &mut [u8; 8192]) -> Turn<Monitor>
     ensures { Steps (made_load m register.now) result out.old out.new }
 {
-    let loaded = monitor::load(m, register);
-    let answer = loaded.answer;
-    let number = answer.number();
-    let monitor = loaded.monitor;
-    if number == 0 {
-        return Turn {
-            monitor,
-            more: true,
-            length: text::put_numbered(out, 0, b"load accepted", answer.visits() as u64),
-        };
-    }
-    Turn {
-        monitor,
-        more: true,
-        length: text::put_numbered(out, 0, b"load refused", number as u64),
+    match monitor::load(register) {
+        Ok(loaded) => answer(
+            loaded.monitor,
+            &[Words(b"load accepted"), U32(loaded.visits)],
+            out,
+        ),
+        Err(refusal) => answer(m, &[Words(b"load refused"), U32(u32::from(refusal))], out),
     }
 }
 
@@ -49,192 +50,116 @@ fn put_accepted(out: &mut [u8], interval: u32, report: &[u8]) -> usize
     requires { (8192 ≤ length out.old) × (length report.now ≤ 1280) }
     ensures { Put out.old 0 (accepted_text interval report.now) result out.new }
 {
-    let lines = text::put_bytes(out, 0, b"interval accepted\n");
+    let lines = text::put_line(out, 0, &[Words(b"interval accepted")]);
     text::put_report(out, lines, interval, report)
 }
 
-pub(crate) fn interval(m: Monitor, buffer: &[u8], report: &mut [u8], out: &mut [u8; 8192]) -> Turn
-    ensures { Steps (made_call m (interval buffer.now report.old)) result out.old out.new }
+// An interval with a report buffer of zeros.
+#[tactic(auto, unfolding(crate::specs::Texts::interval_text))]
+pub(crate) fn interval(
+    m: Monitor,
+    buffer: &[u8],
+    room: usize,
+    out: &mut [u8; 8192],
+) -> Turn<Monitor>
+    requires { room ≤ 4096 }
+    ensures { Steps (made_call m (interval buffer.now (replicate room 0))) result out.old out.new }
 {
-    let stepped = monitor::interval(m, buffer, report);
-    let verdict = stepped.verdict;
-    let number = verdict.number();
-    let monitor = stepped.monitor;
-    if number == 0 {
-        return Turn {
-            monitor,
-            more: true,
-            length: put_accepted(out, monitor.last, report),
-        };
-    }
-    Turn {
-        monitor,
-        more: true,
-        length: text::put_numbered(out, 0, b"interval refused", number as u64),
+    let mut report = [0; 4096];
+    let report = &mut report[..room];
+    match monitor::interval(m, buffer, report) {
+        Ok(next) => {
+            let length = put_accepted(out, wire::word_at(buffer, 0), report);
+            Turn::continues(next, length)
+        }
+        Err(refusal) => refuse(m, b"interval refused", refusal, out),
     }
 }
 
-pub(crate) fn declare(m: Monitor, point: u32, level: i32, out: &mut [u8; 8192]) -> Turn
+#[tactic(auto, unfolding(crate::specs::Texts::declare_text))]
+pub(crate) fn declare(m: Monitor, point: u32, level: i32, out: &mut [u8; 8192]) -> Turn<Monitor>
     ensures { Steps (made_call m (operate (declare level) point)) result out.old out.new }
 {
-    let stepped = monitor::declare(m, point, level);
-    let verdict = stepped.verdict;
-    let monitor = stepped.monitor;
-    Turn {
-        monitor,
-        more: true,
-        length: put_answer(
-            out,
-            verdict.number(),
-            b"declare accepted\n",
-            b"declare refused",
-        ),
+    match monitor::declare(m, point, level) {
+        Ok(next) => answer(next, &[Words(b"declare accepted")], out),
+        Err(refusal) => refuse(m, b"declare refused", refusal, out),
     }
 }
 
-pub(crate) fn reinstate(m: Monitor, point: u32, out: &mut [u8; 8192]) -> Turn
+#[tactic(auto, unfolding(crate::specs::Texts::reinstate_text))]
+pub(crate) fn reinstate(m: Monitor, point: u32, out: &mut [u8; 8192]) -> Turn<Monitor>
     ensures { Steps (made_call m (operate reinstate point)) result out.old out.new }
 {
-    let stepped = monitor::reinstate(m, point);
-    let verdict = stepped.verdict;
-    let monitor = stepped.monitor;
-    Turn {
-        monitor,
-        more: true,
-        length: put_answer(
-            out,
-            verdict.number(),
-            b"reinstate accepted\n",
-            b"reinstate refused",
-        ),
+    match monitor::reinstate(m, point) {
+        Ok(next) => answer(next, &[Words(b"reinstate accepted")], out),
+        Err(refusal) => refuse(m, b"reinstate refused", refusal, out),
     }
 }
 
-pub(crate) fn look(m: Monitor, point: u32, out: &mut [u8; 8192]) -> Turn
+#[tactic(auto, unfolding(crate::specs::Texts::look_text))]
+pub(crate) fn look(m: Monitor, point: u32, out: &mut [u8; 8192]) -> Turn<Monitor>
     ensures { Steps (made_call m (operate (ask look) point)) result out.old out.new }
 {
-    let looked = monitor::look(m, point);
-    let verdict = looked.verdict;
-    let number = verdict.number();
-    let q = looked.point;
-    let monitor = looked.monitor;
-    if number == 0 {
-        return Turn {
-            monitor,
-            more: true,
-            length: text::put_standing(
-                out,
-                0,
-                b"look accepted",
-                q.status,
-                q.small.count,
-                q.large.count,
-                q.level,
-            ),
-        };
-    }
-    Turn {
-        monitor,
-        more: true,
-        length: text::put_numbered(out, 0, b"look refused", number as u64),
+    match monitor::look(m, point) {
+        Ok(q) => answer(
+            m,
+            &[
+                Words(b"look accepted"),
+                U8(q.status),
+                U8(q.small.count),
+                U8(q.large.count),
+                I32(q.level),
+            ],
+            out,
+        ),
+        Err(refusal) => refuse(m, b"look refused", refusal, out),
     }
 }
 
-// The line of a reason.
-fn put_reason(out: &mut [u8], reason: Reason) -> usize
-    requires { 8192 ≤ length out.old }
-    ensures { Put out.old 0 (reason_line reason) result out.new }
+fn reason_words(reason: Reason) -> &'static [u8]
+    ensures words { result.now ≡ reason_words reason }
+    ensures short { length result.now ≤ 24 }
 {
-    let span = reason.span();
     match reason {
-        Reason::ByOperator => text::put_spanned(
-            out,
-            0,
-            b"reason accepted operator",
-            span.first,
-            span.last,
-        ),
-        Reason::BySmallRun(_) => text::put_spanned(
-            out,
-            0,
-            b"reason accepted small",
-            span.first,
-            span.last,
-        ),
-        Reason::ByLargeRun(_) => text::put_spanned(
-            out,
-            0,
-            b"reason accepted large",
-            span.first,
-            span.last,
-        ),
+        Reason::ByOperator => b"reason accepted operator",
+        Reason::BySmallRun(_) => b"reason accepted small",
+        Reason::ByLargeRun(_) => b"reason accepted large",
     }
 }
 
-pub(crate) fn reason(m: Monitor, point: u32, out: &mut [u8; 8192]) -> Turn
+#[tactic(auto, unfolding(crate::specs::Texts::reason_text))]
+pub(crate) fn reason(m: Monitor, point: u32, out: &mut [u8; 8192]) -> Turn<Monitor>
     ensures { Steps (made_call m (operate (ask reason) point)) result out.old out.new }
 {
-    let reasoned = monitor::reason(m, point);
-    let verdict = reasoned.verdict;
-    let number = verdict.number();
-    let reason = reasoned.reason;
-    let monitor = reasoned.monitor;
-    if number == 0 {
-        return Turn {
-            monitor,
-            more: true,
-            length: put_reason(out, reason),
-        };
-    }
-    Turn {
-        monitor,
-        more: true,
-        length: text::put_numbered(out, 0, b"reason refused", number as u64),
+    match monitor::reason(m, point) {
+        Ok(reason) => {
+            let span = reason.span();
+            answer(
+                m,
+                &[Words(reason_words(reason)), U32(span.first), U32(span.last)],
+                out,
+            )
+        }
+        Err(refusal) => refuse(m, b"reason refused", refusal, out),
     }
 }
 
-// A flag as the text has it.
-#[tactic(auto, unfolding(crate::specs::Texts::bit_of))]
-fn bit(flag: bool) -> u8
-    ensures { result ≡ bit_of flag }
-{
-    if flag { 1 } else { 0 }
-}
-
-// The line of an aggregate's target.
-fn put_target(out: &mut [u8], t: Target) -> usize
-    requires { 8192 ≤ length out.old }
-    ensures { Put out.old 0 (target_line t) result out.new }
-{
-    text::put_target(
-        out,
-        0,
-        b"target accepted",
-        t.target,
-        t.raise,
-        t.lower,
-        bit(t.complete),
-    )
-}
-
-pub(crate) fn target(m: Monitor, point: u32, out: &mut [u8; 8192]) -> Turn
+#[tactic(auto, unfolding(crate::specs::Texts::target_text, crate::specs::Texts::bit_of))]
+pub(crate) fn target(m: Monitor, point: u32, out: &mut [u8; 8192]) -> Turn<Monitor>
     ensures { Steps (made_call m (operate (ask target) point)) result out.old out.new }
 {
-    let targeted = monitor::target(m, point);
-    let verdict = targeted.verdict;
-    let number = verdict.number();
-    let target = targeted.target;
-    let monitor = targeted.monitor;
-    if number == 0 {
-        return Turn {
-            monitor,
-            more: true,
-            length: put_target(out, target),
-        };
-    }
-    Turn {
-        monitor,
-        more: true,
-        length: text::put_numbered(out, 0, b"target refused", number as u64),
+    match monitor::target(m, point) {
+        Ok(t) => answer(
+            m,
+            &[
+                Words(b"target accepted"),
+                I32(t.target),
+                U32(t.raise),
+                U32(t.lower),
+                U8(u8::from(t.complete)),
+            ],
+            out,
+        ),
+        Err(refusal) => refuse(m, b"target refused", refusal, out),
     }
 }

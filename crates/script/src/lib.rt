@@ -2,109 +2,53 @@
 #![tactic(auto)]
 
 mod calls;
+mod reading;
 
-ghost use Rattle.program.specs.Steps.{Steps};
-ghost use Rattle.script.specs.Items.{interval_item, declare_item, point_item, operator_item, payload_item};
+ghost use Rattle.turns.specs.Steps.{Steps};
+ghost use Rattle.script.specs.Items.{item_by, HasRoom};
 ghost use Rattle.script.specs.Steps.{unread, made_by, step_of};
 
 use monitor::Monitor;
-use program::Turn;
+use reading::Call;
+use text::Field;
+use turns::Turn;
 
 // A call that cannot be read, whose tag is at this byte.
-fn unreadable(m: Monitor, at: u64, out: &mut [u8; 8192]) -> Turn
+fn unreadable(m: Monitor, at: u64, out: &mut [u8; 8192]) -> Turn<Monitor>
     ensures { Steps (unread m at) result out.old out.new }
 {
-    Turn {
-        monitor: m,
-        more: false,
-        length: text::put_numbered(out, 0, b"script error at byte", at),
-    }
+    let length = text::put_line(
+        out,
+        0,
+        &[Field::Words(b"script error at byte"), Field::U64(at)],
+    );
+    Turn::ends(m, length)
 }
 
-fn interval_call(m: Monitor, at: u64, payload: &[u8], out: &mut [u8; 8192]) -> Turn
-    ensures { Steps (made_by m at (interval_item payload.now)) result out.old out.new }
+fn make(m: Monitor, at: u64, call: Call, out: &mut [u8; 8192]) -> Turn<Monitor>
+    requires { HasRoom call }
+    ensures { Steps (made_by m at (item_by call.entry)) result out.old out.new }
 {
-    if payload.len() < 4 {
-        return unreadable(m, at, out);
+    match call {
+        Call::Load(register) => calls::load(m, register, out),
+        Call::Interval { room, buffer } => calls::interval(m, buffer, room, out),
+        Call::Declare { point, level } => calls::declare(m, point, level, out),
+        Call::Reinstate(point) => calls::reinstate(m, point, out),
+        Call::Look(point) => calls::look(m, point, out),
+        Call::Reason(point) => calls::reason(m, point, out),
+        Call::Target(point) => calls::target(m, point, out),
     }
-    let size = wire::word_at(payload, 0);
-    if 4096 < size {
-        return unreadable(m, at, out);
-    }
-    let mut report = [0; 4096];
-    calls::interval(m, &payload[4..], &mut report[..size as usize], out)
-}
-
-fn declare_call(m: Monitor, at: u64, payload: &[u8], out: &mut [u8; 8192]) -> Turn
-    ensures { Steps (made_by m at (declare_item payload.now)) result out.old out.new }
-{
-    if payload.len() == 8 {
-        return calls::declare(
-            m,
-            wire::word_at(payload, 0),
-            wire::whole_at(payload, 4),
-            out,
-        );
-    }
-    unreadable(m, at, out)
-}
-
-// The calls that take a point alone.
-fn point_call(m: Monitor, at: u64, tag: u32, point: u32, out: &mut [u8; 8192]) -> Turn
-    ensures { Steps (made_by m at (point_item tag point)) result out.old out.new }
-{
-    if tag == 4 {
-        return calls::reinstate(m, point, out);
-    }
-    if tag == 5 {
-        return calls::look(m, point, out);
-    }
-    if tag == 6 {
-        return calls::reason(m, point, out);
-    }
-    if tag == 7 {
-        return calls::target(m, point, out);
-    }
-    unreadable(m, at, out)
-}
-
-fn operator_call(m: Monitor, at: u64, tag: u32, payload: &[u8], out: &mut [u8; 8192]) -> Turn
-    ensures { Steps (made_by m at (operator_item tag payload.now)) result out.old out.new }
-{
-    if tag == 3 {
-        return declare_call(m, at, payload, out);
-    }
-    if payload.len() == 4 {
-        return point_call(m, at, tag, wire::word_at(payload, 0), out);
-    }
-    unreadable(m, at, out)
-}
-
-fn payload_call(m: Monitor, at: u64, tag: u32, payload: &[u8], out: &mut [u8; 8192]) -> Turn
-    ensures { Steps (made_by m at (payload_item tag payload.now)) result out.old out.new }
-{
-    if tag == 1 {
-        return calls::load(m, payload, out);
-    }
-    if tag == 2 {
-        return interval_call(m, at, payload, out);
-    }
-    operator_call(m, at, tag, payload, out)
 }
 
 // The bytes that were read for a call, whose tag is at byte `at` of the file: none at its end.
-pub fn step(m: Monitor, at: u64, call: &[u8], out: &mut [u8; 8192]) -> Turn
+pub fn step(m: Monitor, at: u64, call: &[u8], out: &mut [u8; 8192]) -> Turn<Monitor>
     ensures { Steps (step_of m at call.now) result out.old out.new }
 {
-    if call.len() == 0 {
-        return Turn {
-            monitor: m,
-            more: false,
-            length: 0,
-        };
+    if call.is_empty() {
+        return Turn::ends(m, 0);
     }
-    if frames::is_frame(call) {
-        return payload_call(m, at, wire::word_at(call, 0), &call[8..], out);
+    match reading::read(call) {
+        Some(call) => make(m, at, call, out),
+        None => unreadable(m, at, out),
     }
-    unreadable(m, at, out)
 }

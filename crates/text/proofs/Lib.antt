@@ -4,3 +4,4 @@ pub mod Numbers
 pub mod Digits
 pub mod Lines
 pub mod Rooms
+pub mod Fields

@@ -1,32 +1,67 @@
 -- The pieces that the code puts make up a point's line, and the lines make up a report. Assumes nothing.
-use mathlib.Core.Path.{◌≡◌, sym}
+use mathlib.Core.Path.{◌≡◌, refl, sym, ap, ◌∙◌}
 use mathlib.Core.List.{List, [], ◌∷◌, ◌++◌, append_assoc, append-nil}
-use Prim.Native.Nat.{ℕ, suc, ◌+◌, ◌-◌, ◌*◌, ◌/◌, ◌≤◌, ◌<◌}
+use Prim.Native.Nat.{ℕ, zero, suc, ◌+◌, ◌*◌, ◌/◌, ◌≤◌, ◌<◌}
 use native.Mathlib.Numerals.{add-one}
 use native.Mathlib.Omega.{arith}
 use lib.IntN.{ℤ}
-use lib.ListN.{length, take, drop, length-drop}
-use lib.Seq.{length-take-le}
+use denote.Bor.{Bor}
+use Rattle.wire.specs.Fields.{word_at, whole_at}
+use lib.ListN.{length, get_or, take, drop}
+use lib.Seq.{drop-drop}
+use Rattle.std.specs.Simd.{first_chunks}
 use Rattle.trace.specs.Sweeps.{records}
 use Rattle.trace.proofs.Sweeps.{records-rise}
-use Rattle.text.specs.Numbers.{decimal_of}
-use Rattle.text.specs.Lines.{line_of, line_at, lines_of, standing_of, day_values_of, day_line_of}
-use Rattle.text.specs.Pieces.{field, status_piece, amounts_piece, runs_piece, level_piece, sums_piece, counts_piece}
-use Rattle.text.specs.Puts.{Room, Put}
-use Rattle.text.proofs.Puts.{nothing, room-left, then, same_length}
+use Rattle.text.specs.Lines.{line, joined, line_of, line_at, lines_of, numbered_of, spanned_of, standing_of, target_line_of, day_values_of, day_line_of}
+use Rattle.text.specs.Fields.{texts, longest_fields, longest_line_of}
+use Rattle.text.specs.declared.field.Field.TheVariants.{Words, U8, U32, U64, I32, I64}
+use Rattle.text.specs.Puts.{Room, Put, longest_numbered, longest_spanned, longest_standing, longest_target, longest_day}
+use Rattle.text.proofs.Puts.{nothing, room-left, then}
 
+-- a point's line, as the code puts it, from its record
 pub line-pieces : (interval point : ℕ) (r : List ℕ)
-    → line_of interval point r ≡ decimal_of interval ++ (field (decimal_of point) ++ (status_piece r ++ amounts_piece r))
+    → line_of interval point r
+    ≡ line (texts (
+    U32 interval
+    ∷ U64 point
+    ∷ U8 (get_or r 0 0)
+    ∷ U8 (get_or r 1 0)
+    ∷ U8 (get_or r 2 0)
+    ∷ U8 (get_or r 3 0)
+    ∷ I32 (whole_at r 4)
+    ∷ U32 (word_at r 8)
+    ∷ I32 (whole_at r 12)
+    ∷ []
+    ))
 unfolding line_of
-line-pieces interval point r = simp append_assoc
+line-pieces interval point r = refl
 
-pub standing-pieces : (words : List ℕ) (status small large : ℕ) (level : ℤ)
-    → standing_of words status small large level ≡ words ++ (runs_piece status small large ++ level_piece level)
-standing-pieces words status small large level = simp append_assoc
+-- the lines of words, and the values of a day, as their callers have them put, and the room that they take
+module _ (words : Bor (List ℕ)) where
+  pub numbered-pieces : (n : ℕ)
+      → let fields = Words words ∷ U64 n ∷ [] in
+      (numbered_of words.now n ≡ line (texts fields)) × (longest_numbered words.now ≡ longest_line_of fields)
+  numbered-pieces n = (refl, omega arith)
 
-pub day-pieces : (response : ℤ) (target : ℕ) (flag : List ℕ) (under over : ℕ)
-    → day_values_of response target flag under over ≡ sums_piece response target ++ (field flag ++ counts_piece under over)
-day-pieces response target flag under over = simp (append_assoc, append-nil)
+  pub spanned-pieces : (first last : ℕ)
+      → let fields = Words words ∷ U32 first ∷ U32 last ∷ [] in
+      (spanned_of words.now first last ≡ line (texts fields)) × (longest_spanned words.now ≡ longest_line_of fields)
+  spanned-pieces first last = (refl, omega arith)
+
+  pub standing-pieces : (status small large : ℕ) (level : ℤ)
+      → let fields = Words words ∷ U8 status ∷ U8 small ∷ U8 large ∷ I32 level ∷ [] in
+      (standing_of words.now status small large level ≡ line (texts fields)) × (longest_standing words.now ≡ longest_line_of fields)
+  standing-pieces status small large level = (refl, omega arith)
+
+  pub target-pieces : (target : ℤ) (raise lower kept : ℕ)
+      → let fields = Words words ∷ I32 target ∷ U32 raise ∷ U32 lower ∷ U8 kept ∷ [] in
+      (target_line_of words.now target raise lower kept ≡ line (texts fields)) × (longest_target words.now ≡ longest_line_of fields)
+  target-pieces target raise lower kept = (refl, omega arith)
+
+pub day-pieces : (response : ℤ) (target : ℕ) (flag : Bor (List ℕ)) (under over : ℕ)
+    → let fields = I64 response ∷ U32 target ∷ Words flag ∷ U32 under ∷ U32 over ∷ [] in
+    (day_values_of response target flag.now under over ≡ joined (texts fields)) × (longest_day flag.now ≡ longest_fields fields)
+day-pieces response target flag under over = (refl, omega arith)
 
 pub day-line : (response : ℤ) (target : ℕ) (flag : List ℕ) (under over : ℕ)
     → day_line_of response target flag under over ≡ day_values_of response target flag under over ++ (10 ∷ [])
@@ -38,9 +73,14 @@ pub record Lined (interval : ℕ) (report out : List ℕ) (at i next : ℕ) (aft
   pub within : i ≤ length report / 16
   pub put : Put out at (records (line_at interval report) i) next after
 
--- the 16 bytes of a record, as the code lends them
-lent : (i : ℕ) → 16 * i + 16 - 16 * i ≡ 16
-lent i = omega arith
+-- the record of a point, as the code lends it
+pub record-at : (k : ℕ) (report : List ℕ) (i : ℕ) (d : List ℕ) → i < k → get_or (first_chunks 16 k report) i d ≡ take 16 (drop (16 * i) report)
+record-at zero report i d h = absurd (omega arith)
+record-at (suc k) report zero d h = refl
+record-at (suc k) report (suc i) d h =
+    let all : 16 + 16 * i ≡ 16 * suc i = omega arith in
+    record-at k (drop 16 report) i d (omega arith) ∙ ap (λ (l : List ℕ). take 16 l) (drop-drop (16 * i) 16 report)
+    ∙ ap (λ (m : ℕ). take 16 (drop m report)) all
 
 module _ (interval : ℕ) (report out : List ℕ) (at : ℕ) where
   pub lined-none : Lined interval report out at 0 at out
@@ -56,27 +96,17 @@ module _ (interval : ℕ) (report out : List ℕ) (at : ℕ) where
           let shorter = records-rise f (suc i) (length report / 16) h in
           record { fits = omega (arith, shorter, room.fits) }
 
-      pub lined-record : 16 ≤ length (take (16 * i + 16 - 16 * i) (drop (16 * i) report))
-      lined-record = rw (lent i, length-take-le 16 (drop (16 * i) report) (rw length-drop (omega arith))) (omega arith)
+      pub lined-room : Room after next (line_of interval (i + 1) (take 16 (drop (16 * i) report)))
+      lined-room = rw (add-one i) (room-left so.put (line_at interval report i) room-more)
 
-      pub lined-room : Room after next (line_of interval (i + 1) (take (16 * i + 16 - 16 * i) (drop (16 * i) report)))
-      lined-room = rw (lent i, add-one i) (room-left so.put (line_at interval report i) room-more)
-
-      pub lined-more : (last : ℕ) (end : List ℕ)
-          → Put after next (line_of interval (i + 1) (take (16 * i + 16 - 16 * i) (drop (16 * i) report))) last end
+      pub lined-more : (last : ℕ) (end : List ℕ) → Put after next (line_of interval (i + 1) (take 16 (drop (16 * i) report))) last end
           → Lined interval report out at (i + 1) last end
       unfolding records
       lined-more last end put =
           record {
             within = omega arith;
-            put = rw (add-one i) (then so.put room-more (rw (lent i, add-one i) at put));
+            put = rw (add-one i) (then so.put room-more (rw (add-one i) at put));
           }
-
-    pub lined-length : length after ≡ length out
-    unfolding lines_of
-    lined-length =
-        let shorter = records-rise (line_at interval report) i (length report / 16) so.within in
-        same_length so.put (record { fits = omega (arith, shorter, room.fits) })
 
     pub lined-all : length report / 16 ≤ i → Put out at (lines_of interval report) next after
     unfolding lines_of

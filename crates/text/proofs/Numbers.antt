@@ -1,16 +1,15 @@
 -- The digits of a number, one at a time, and how many there are. Assumes nothing.
-use mathlib.Core.Path.{◌≡◌, refl, sym, ap}
-use mathlib.Core.Bool.{Bool, true, false, cond, false≢true}
+use mathlib.Core.Path.{◌≡◌, refl, ap}
+use mathlib.Core.Bool.{Bool, true, false, cond}
 use mathlib.Core.List.{List, [], ◌∷◌, ◌++◌}
 use Prim.Native.Nat.{ℕ, zero, suc, ◌+◌, ◌/◌, ◌%◌, ◌^◌, ◌≤◌, ◌<◌}
 use native.Mathlib.Nat.{pow-suc}
 use native.Mathlib.Omega.{arith}
-use borrow.Author.Tests.{lt-ltb, le-ltb, ltb-true}
+use borrow.Author.Tests.{lt-ltb, le-ltb}
 use lib.Dec.{ltb}
 use lib.IntN.{ℤ, pos, negsuc, nat_abs}
 use lib.ListN.{length, length-append}
-use lib.Signed.{lt_z}
-use Rattle.text.specs.Numbers.{decimal_by, decimal_of, whole_of}
+use Rattle.text.specs.Numbers.{decimal_by, decimal_of, sign, whole_of}
 
 -- a limit of one digit more changes nothing where the digits were all there
 more : (k n : ℕ) → n < 10 ^ suc k → decimal_by (suc k) n ≡ decimal_by (suc (suc k)) n
@@ -22,15 +21,21 @@ more (suc k) n h =
     let tens : n / 10 < 10 ^ suc k = omega (arith, h, pow-suc 10 (suc k)) in
     ap (λ (l : List ℕ). cond (ltb n 10) [] l ++ ((48 + n % 10) ∷ [])) (more k (n / 10) tens)
 
-pub decimal-one : (n : ℕ) → n < 10 → decimal_of n ≡ (48 + n % 10) ∷ []
-unfolding decimal_of decimal_by
-decimal-one n h = rw (lt-ltb n 10 h)
+-- the digits of n before the last
+abbrev pub higher : ℕ → List ℕ
+higher n = cond (ltb n 10) [] (decimal_of (n / 10))
 
-pub decimal-more : (n : ℕ) → 10 ≤ n → n < 2 ^ 64 → decimal_of n ≡ decimal_of (n / 10) ++ ((48 + n % 10) ∷ [])
+pub higher-none : (n : ℕ) → n < 10 → higher n ≡ []
+higher-none n h = rw (lt-ltb n 10 h)
+
+pub higher-some : (n : ℕ) → 10 ≤ n → higher n ≡ decimal_of (n / 10)
+higher-some n h = rw (le-ltb n 10 h)
+
+pub decimal-higher : (n : ℕ) → n < 2 ^ 64 → decimal_of n ≡ higher n ++ ((48 + n % 10) ∷ [])
 unfolding decimal_of decimal_by
-decimal-more n h l =
+decimal-higher n h =
     let tens : n / 10 < 10 ^ 19 = omega arith in
-    rw (le-ltb n 10 h) (ap (λ (l : List ℕ). l ++ ((48 + n % 10) ∷ [])) (more 18 (n / 10) tens))
+    ap (λ (l : List ℕ). cond (ltb n 10) [] l ++ ((48 + n % 10) ∷ [])) (more 18 (n / 10) tens)
 
 -- k digits hold what is below 10 ^ k
 length-by : (limit k n : ℕ) → n < 10 ^ suc k → length (decimal_by limit n) ≤ suc k
@@ -53,12 +58,8 @@ length-decimal k n h = length-by 20 k n h
 
 -- ---- signed numbers
 
-pub whole-negative : (z : ℤ) → lt_z z (pos 0) ≡ true → whole_of z ≡ 45 ∷ decimal_of (nat_abs z)
+-- its sign, and its digits
+pub whole-signed : (z : ℤ) → whole_of z ≡ sign z ++ decimal_of (nat_abs z)
 unfolding whole_of
-whole-negative (pos n) t = let h : n < 0 = ltb-true n 0 t in absurd (omega arith)
-whole-negative (negsuc n) t = refl
-
-pub whole-natural : (z : ℤ) → lt_z z (pos 0) ≡ false → whole_of z ≡ decimal_of (nat_abs z)
-unfolding whole_of
-whole-natural (pos n) t = refl
-whole-natural (negsuc n) t = let e : true ≡ false = t in absurd (false≢true (sym e))
+whole-signed (pos n) = refl
+whole-signed (negsuc n) = refl

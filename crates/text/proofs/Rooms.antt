@@ -2,22 +2,23 @@
 use mathlib.Core.Path.{◌≡◌, refl, sym}
 use mathlib.Core.Bool.{Bool, true, false}
 use mathlib.Core.List.{List}
-use Prim.Native.Nat.{ℕ, suc, ◌+◌, ◌-◌, ◌*◌, ◌/◌, ◌^◌, ◌≤◌, ◌<◌}
+use Prim.Native.Nat.{ℕ, suc, min, ◌+◌, ◌-◌, ◌*◌, ◌/◌, ◌^◌, ◌≤◌, ◌<◌}
 use native.Mathlib.Omega.{arith}
 use borrow.Author.Tests.{leb-true, leb-false, le-leb, lt-leb}
 use lib.Dec.{leb}
 use lib.IntN.{ℤ, pos, negsuc}
+use lib.Signed.{mag}
 use lib.ListN.{length, get_or, take, drop, length-append, length-drop}
 use lib.Seq.{get_or-take, get_or-drop, length-take-le}
-use mir.Syntax.{w32, w64}
+use mir.Syntax.{w32}
 use mir.Val.{SFits}
 use mir.ValLaws.{to_z-Fits}
 use Rattle.trace.proofs.Sweeps.{records-at-most}
 use Rattle.wire.specs.Fields.{word_at, whole_at}
 use Rattle.wire.proofs.Laws.{four}
 use Rattle.text.specs.Numbers.{decimal_of, whole_of}
-use Rattle.text.specs.Lines.{line_of, line_at, lines_of, numbered_of, spanned_of, standing_of, target_line_of, day_values_of}
-use Rattle.text.specs.Puts.{Room, Put, PutWithin, has_room, longest_line, longest_lines}
+use Rattle.text.specs.Lines.{line_of, line_at, lines_of}
+use Rattle.text.specs.Puts.{Room, Put, PutWithin, has_room, most, longest_line, longest_lines}
 use Rattle.text.proofs.Numbers.{length-decimal}
 
 -- ---- the test
@@ -39,6 +40,10 @@ lines-test size at lines h = leb-same lines ((size - at) / 83) (at + 83 * lines)
 
 pub no_room : (size at room : ℕ) → size < at → false ≡ leb (at + room) size
 no_room size at room h = sym (lt-leb (at + room) size (omega arith))
+
+-- a room that is counted up to the greatest usize
+pub room-most : (room at : ℕ) (out : List ℕ) → length out < most → has_room (min most room) out at ≡ has_room room out at
+room-most room at out h = leb-same (at + min most room) (length out) (at + room) (length out) (λ l. omega arith) (λ l. omega arith)
 
 module _ {room : ℕ} {out : List ℕ} {at : ℕ} {text : List ℕ} where
   pub room_by : has_room room out at ≡ true → length text ≤ room → Room out at text
@@ -67,42 +72,18 @@ byte-longest n h = length-decimal 2 n (omega arith)
 pub word-longest : (n : ℕ) → n < 2 ^ 32 → length (decimal_of n) ≤ 10
 word-longest n h = length-decimal 9 n (omega arith)
 
-pub whole-longest : (z : ℤ) → SFits w32 z → length (whole_of z) ≤ 11
+pub whole-longest : (z : ℤ) → mag z < 2 ^ 31 → length (whole_of z) ≤ 11
 unfolding whole_of
-whole-longest (pos n) f = let h : n < 2 ^ 31 = f.sfits in omega (arith, length-decimal 9 n (omega arith))
-whole-longest (negsuc n) f = let h : n < 2 ^ 31 = f.sfits in omega (arith, length-decimal 9 (suc n) (omega arith))
+whole-longest (pos n) h = omega (arith, length-decimal 9 n (omega arith))
+whole-longest (negsuc n) h = omega (arith, length-decimal 9 (suc n) (omega arith))
 
 -- the size of an i64 is at most 2 ^ 63
-pub long-longest : (z : ℤ) → SFits w64 z → length (whole_of z) ≤ 20
+pub long-longest : (z : ℤ) → mag z < 2 ^ 63 → length (whole_of z) ≤ 20
 unfolding whole_of
-long-longest (pos n) f = let h : n < 2 ^ 63 = f.sfits in omega (arith, length-decimal 18 n (omega arith))
-long-longest (negsuc n) f = let h : n < 2 ^ 63 = f.sfits in omega (arith, length-decimal 18 (suc n) (omega arith))
+long-longest (pos n) h = omega (arith, length-decimal 18 n (omega arith))
+long-longest (negsuc n) h = omega (arith, length-decimal 18 (suc n) (omega arith))
 
 -- ---- lines
-
-pub numbered-longest : (words : List ℕ) (n : ℕ) → n < 2 ^ 64 → length (numbered_of words n) ≤ length words + 22
-numbered-longest words n h = simp length-append (omega (arith, number-longest n h))
-
-pub spanned-longest : (words : List ℕ) (first last : ℕ) → first < 2 ^ 32 → last < 2 ^ 32 → length (spanned_of words first last) ≤ length words + 23
-spanned-longest words first last a b = simp length-append (omega (arith, word-longest first a, word-longest last b))
-
-pub standing-longest : (words : List ℕ) (status small large : ℕ) (level : ℤ) → status < 256 → small < 256 → large < 256 → SFits w32 level
-    → length (standing_of words status small large level) ≤ length words + 25
-standing-longest words status small large level a b c d =
-    simp length-append
-    (omega (arith, byte-longest status a, byte-longest small b, byte-longest large c, whole-longest level d))
-
-pub target-longest : (words : List ℕ) (target : ℤ) (raise lower kept : ℕ) → SFits w32 target → raise < 2 ^ 32 → lower < 2 ^ 32 → kept < 256
-    → length (target_line_of words target raise lower kept) ≤ length words + 39
-target-longest words target raise lower kept a b c d =
-    simp length-append
-    (omega (arith, whole-longest target a, word-longest raise b, word-longest lower c, byte-longest kept d))
-
-pub day-longest : (response : ℤ) (target : ℕ) (flag : List ℕ) (under over : ℕ) → SFits w64 response → target < 2 ^ 32 → under < 2 ^ 32 → over < 2 ^ 32
-    → length (day_values_of response target flag under over) ≤ length flag + 54
-day-longest response target flag under over a b c d =
-    simp length-append
-    (omega (arith, long-longest response a, word-longest target b, word-longest under c, word-longest over d))
 
 module _ (r : List ℕ) (long : 16 ≤ length r) (byte : (i : ℕ) → i < 16 → get_or r i 0 < 256) where
   word_small : (at : ℕ) → at + 4 ≤ 16 → word_at r at < 2 ^ 32
@@ -131,9 +112,9 @@ module _ (r : List ℕ) (long : 16 ≤ length r) (byte : (i : ℕ) → i < 16 �
         byte-longest (get_or r 1 0) (byte 1 (omega arith)),
         byte-longest (get_or r 2 0) (byte 2 (omega arith)),
         byte-longest (get_or r 3 0) (byte 3 (omega arith)),
-        whole-longest (whole_at r 4) (whole-fits 4 (omega arith)),
+        whole-longest (whole_at r 4) (whole-fits 4 (omega arith)).sfits,
         word-longest (word_at r 8) (word_small 8 (omega arith)),
-        whole-longest (whole_at r 12) (whole-fits 12 (omega arith)),
+        whole-longest (whole_at r 12) (whole-fits 12 (omega arith)).sfits,
       ))
 
 pub lines-longest : (interval : ℕ) (report : List ℕ) → interval < 2 ^ 32 → length report < 2 ^ 64 → ((i : ℕ) → get_or report i 0 < 256)

@@ -2,4 +2,4 @@
 pub mod Numbers
 pub mod Lines
 pub mod Puts
-pub mod Pieces
+pub mod Fields

@@ -21,3 +21,8 @@ decimal_of n = decimal_by 20 n
 unfoldable pub whole_of : ℤ → List ℕ
 whole_of (pos n) = decimal_of n
 whole_of (negsuc n) = 45 ∷ decimal_of (suc n)
+
+-- the sign of z, if it has one
+abbrev pub sign : ℤ → List ℕ
+sign (pos n) = []
+sign (negsuc n) = 45 ∷ []

@@ -19,6 +19,10 @@ pub record PutWithin (room : ℕ) (before : List ℕ) (at : ℕ) (text : List �
   pub place : next ≡ cond (has_room room before at) (at + length text) at
   pub bytes : after ≡ cond (has_room room before at) (put_at before at text) before
 
+-- the greatest usize, and no buffer is that long
+abbrev pub most : ℕ
+most = 18446744073709551615
+
 -- the longest number (u64), and the longest whole number (i32: a sign and ten digits)
 abbrev pub longest_number : ℕ
 longest_number = 20

@@ -1,14 +1,23 @@
-use Rattle.std.proofs.Common.{arith}
+use Rattle.std.proofs.Common.{sym, ◌∙◌, arith}
+use Rattle.program.specs.Steps.{accepted}
 use Rattle.text.proofs.Rooms.{put-within}
-use Rattle.program.proofs.Turns.{taken-accepted, taken_refused}
+use Rattle.turns.proofs.Turns.{turned}
+use Rattle.program.proofs.Turns.{header-inside, number-read, taken-so}
 use Rattle.program.proofs.take.Goals as goal
 
-pub returns-then-number-eq0 : goal.returns-then-number-eq0
-returns-then-number-eq0 c =
-    taken-accepted _ _ _ _ c.interval-stepped.ensures.next.result _ c.number-number.ensures _ _ _ _ c.interval-stepped.ensures.bytes
-    c.if-number-eq0.true (put-within (omega arith) c.put_report.ensures)
+pub word_at-requires : goal.word_at-requires
+word_at-requires c = header-inside _ _ _ _ (sym c.in-Ok.is ∙ c.interval.ensures.next.result)
 
-pub returns : goal.returns
-returns c =
-    taken_refused _ _ _ _ c.interval-stepped.ensures.next.result _ c.number-number.ensures _ _ _ c.if-number-eq0.false
-    (put-within (omega arith) c.put_numbered.ensures)
+pub returns-in-Ok : goal.returns-in-Ok
+returns-in-Ok c =
+    let a = c.args in
+    let is = sym c.in-Ok.is ∙ c.interval.ensures.next.result in
+    let put = put-within (omega arith) c.put_report-length.ensures in
+    let lines = rw (c.word_at.ensures, ← number-read _ _ _ _ is, c.interval.ensures.bytes) at put in
+    rw (taken-so a.m a.buffer.now a.report.now is) (turned (accepted c.in-Ok.next _) _ c.continues.ensures lines)
+
+pub returns-in-Err : goal.returns-in-Err
+returns-in-Err c =
+    let a = c.args in
+    let is = sym c.in-Err.is ∙ c.interval.ensures.next.result in
+    rw (taken-so a.m a.buffer.now a.report.now is) (rw c.from.ensures at c.refuse.ensures)

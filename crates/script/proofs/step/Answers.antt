@@ -1,36 +1,18 @@
-use Rattle.std.proofs.Common.{arith, sym, ◌∙◌}
-use Rattle.wire.proofs.Laws.{behind}
-use Rattle.frames.proofs.Calls.{frame-long}
-use Rattle.script.proofs.Readings.{item-frame, item-unread, step-item, step_end}
+use Rattle.std.proofs.Common.{refl, sym}
+use borrow.Author.Tests.{eqb-true, eqb-false}
+use Rattle.turns.proofs.Turns.{silent}
+use Rattle.program.specs.Steps.{ended}
+use Rattle.script.proofs.Readings.{step-item, step_end}
 use Rattle.script.proofs.step.Goals as goal
 
-pub returns-then-call-eq0 : goal.returns-then-call-eq0
-returns-then-call-eq0 c = step_end _ _ _ _ c.if-call-eq0.true
+pub returns-then-is_empty : goal.returns-then-is_empty
+returns-then-is_empty c =
+    rw (step_end c.args.m c.args.at c.args.call.now (eqb-true _ _ (sym c.if-is_empty.ensures))) (silent (ended c.args.m) _ refl c.ends.ensures)
 
-pub word_at-requires : goal.word_at-requires
-word_at-requires c = let framed = sym c.is_frame.ensures ∙ c.if-is_frame.true in omega (arith, frame-long _ framed)
+pub returns-in-Some : goal.returns-in-Some
+returns-in-Some c =
+    rw (step-item c.args.m c.args.at c.args.call.now (eqb-false _ _ (sym c.if-is_empty.ensures)), sym c.in-Some.ensures.item) c.make.ensures
 
-pub slice_bounds-payload_call-count : goal.slice_bounds-payload_call-count
-slice_bounds-payload_call-count c = let framed = sym c.is_frame.ensures ∙ c.if-is_frame.true in omega (arith, frame-long _ framed)
-
-pub slice_bounds-payload_call-start : goal.slice_bounds-payload_call-start
-slice_bounds-payload_call-start c = let framed = sym c.is_frame.ensures ∙ c.if-is_frame.true in omega (arith, frame-long _ framed)
-
-pub returns-then-is_frame : goal.returns-then-is_frame
-returns-then-is_frame c =
-    let call = c.args.call.now in
-    rw (
-      step-item c.args.m c.args.at call c.if-call-eq0.false,
-      item-frame call (sym c.is_frame.ensures ∙ c.if-is_frame.true),
-      sym c.word_at.ensures,
-    )
-    (rw (behind 8 call) at c.payload_call.ensures)
-
-pub returns : goal.returns
-returns c =
-    let call = c.args.call.now in
-    rw (
-      step-item c.args.m c.args.at call c.if-call-eq0.false,
-      item-unread call (sym c.is_frame.ensures ∙ c.if-is_frame.false),
-    )
-    c.unreadable.ensures
+pub returns-in-None : goal.returns-in-None
+returns-in-None c =
+    rw (step-item c.args.m c.args.at c.args.call.now (eqb-false _ _ (sym c.if-is_empty.ensures)), sym c.in-None.ensures.item) c.unreadable.ensures

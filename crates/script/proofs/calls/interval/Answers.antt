@@ -1,19 +1,25 @@
-use Rattle.std.proofs.Common.{arith}
-use Rattle.text.proofs.Rooms.{put-within}
-use Rattle.script.proofs.Answers.{accepted-small, interval-accepted, interval-refused}
+use Rattle.std.proofs.Common.{ℕ, take, replicate, sym, ◌∙◌, arith}
+use Rattle.std.proofs.lemmas.List.{take-replicate}
+use Rattle.turns.proofs.Turns.{turned}
+use Rattle.program.proofs.Turns.{header-inside, number-read, accepted-size}
+use Rattle.script.specs.Texts.{interval_text}
+use Rattle.script.specs.Steps.{answered}
+use Rattle.script.proofs.Readings.{interval-so}
 use Rattle.script.proofs.calls.interval.Goals as goal
 
-pub put_accepted-requires : goal.put_accepted-requires
-put_accepted-requires c =
-    let small = accepted-small _ _ c.args.report.now _ c.interval-stepped.ensures.next.result _ c.number-number.ensures c.if-number-eq0.true in
-    (omega arith, omega (arith, small))
+pub word_at-requires : goal.word_at-requires
+word_at-requires c = header-inside _ _ _ _ (sym c.in-Ok.is ∙ c.interval.ensures.next.result)
 
-pub returns-then-number-eq0 : goal.returns-then-number-eq0
-returns-then-number-eq0 c =
-    let s = c.interval-stepped.ensures in
-    interval-accepted _ _ _ _ _ c.args.report.now _ s.next.result _ c.number-number.ensures _ s.bytes c.if-number-eq0.true c.put_accepted.ensures
+pub put_accepted-length-requires : goal.put_accepted-length-requires
+put_accepted-length-requires c =
+    let small = accepted-size _ _ _ _ (sym c.in-Ok.is ∙ c.interval.ensures.next.result) in
+    (omega arith, omega arith)
 
-pub returns : goal.returns
-returns c =
-    interval-refused _ _ _ _ _ c.args.report.now _ c.interval-stepped.ensures.next.result _ c.number-number.ensures c.if-number-eq0.false
-    (put-within (omega arith) c.put_numbered.ensures)
+pub returns-in-Ok : goal.returns-in-Ok
+unfolding interval_text
+returns-in-Ok c =
+    let a = c.args in
+    let is = sym c.in-Ok.is ∙ c.interval.ensures.next.result in
+    let lines = rw (c.word_at.ensures, ← number-read _ _ _ _ is, c.interval.ensures.bytes) at c.put_accepted-length.ensures in
+    rw (← take-replicate {X = ℕ} a.room 4096 0 c.requires, interval-so a.m a.buffer.now (take a.room (replicate 4096 0)) is)
+    (turned (answered c.in-Ok.next _) _ c.continues.ensures lines)

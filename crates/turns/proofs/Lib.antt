@@ -1,0 +1,2 @@
+-- What belongs to no one function.
+pub mod Turns

@@ -1,0 +1,2 @@
+-- What a step of a run promises, whatever its state is.
+pub mod Steps

@@ -1,0 +1,35 @@
+// A step of a run: the next state, whether the run goes on, and the text, which is the first `length` bytes of a buffer that was lent.
+#![tactic(auto)]
+
+ghost use Rattle.std.specs.Prelude.{◌≡◌, true, false};
+
+#[derive(Clone, Copy, Debug, PartialEq, Eq, Hash)]
+pub struct Turn<S> {
+    pub state: S,
+    pub more: bool,
+    pub length: usize,
+}
+
+impl<S> Turn<S> {
+    // The run goes on from the state.
+    pub fn continues(state: S, length: usize) -> Turn<S>
+        ensures { result ≡ record { state = state; more = true; length = length } }
+    {
+        Turn {
+            state,
+            more: true,
+            length,
+        }
+    }
+
+    // The run ends with the state.
+    pub fn ends(state: S, length: usize) -> Turn<S>
+        ensures { result ≡ record { state = state; more = false; length = length } }
+    {
+        Turn {
+            state,
+            more: false,
+            length,
+        }
+    }
+}
