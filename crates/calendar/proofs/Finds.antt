@@ -7,21 +7,21 @@ use Rattle.calendar.specs.Dates.{is_date}
 use Rattle.calendar.specs.Ordinals.{window_of, found_of}
 use Rattle.calendar.specs.declared.Date.{Date}
 use Rattle.calendar.specs.declared.Window.{Window}
-use Rattle.calendar.specs.declared.Found.TheVariants.{At, Nothing}
+use Rattle.std.specs.Prelude.{Some, None}
 
-by-test : (t : Bool) (w : Window) → cond t (At w) Nothing ≡ Nothing → t ≡ false
+by-test : (t : Bool) (w : Window) → cond t (Some w) None ≡ None → t ≡ false
 by-test true w e = absurd (let z : ◌≡◌ {A = ℕ} 0 1 = cc in omega arith)
 by-test false w e = refl
 
-at_test : (t : Bool) (v w : Window) → cond t (At w) Nothing ≡ At v → (t ≡ true) × (v ≡ w)
+at_test : (t : Bool) (v w : Window) → cond t (Some w) None ≡ Some v → (t ≡ true) × (v ≡ w)
 at_test true v w e = (refl, cc)
 at_test false v w e = absurd (let z : ◌≡◌ {A = ℕ} 0 1 = cc in omega arith)
 
 module _ (date : Date) where
-  pub found_nothing : found_of date ≡ Nothing → is_date date ≡ false
+  pub found_nothing : found_of date ≡ None → is_date date ≡ false
   unfolding found_of
   found_nothing = by-test (is_date date) (window_of date)
 
-  pub found_at : (w : Window) → found_of date ≡ At w → (is_date date ≡ true) × (w ≡ window_of date)
+  pub found_at : (w : Window) → found_of date ≡ Some w → (is_date date ≡ true) × (w ≡ window_of date)
   unfolding found_of
   found_at w = at_test (is_date date) w (window_of date)

@@ -2,11 +2,12 @@
 use mathlib.Core.Path.{◌≡◌, refl}
 use mathlib.Core.Bool.{Bool, true, false, cond, ◌&&◌, ◌||◌}
 use mathlib.Core.List.{List, [], ◌∷◌}
-use Prim.Native.Nat.{ℕ, zero, suc, ◌+◌, ◌-◌, ◌≤◌, ◌<◌}
+use Prim.Native.Nat.{ℕ, zero, suc, ◌+◌, ◌-◌, ◌≤◌}
 use native.Mathlib.Omega.{arith}
-use borrow.Author.Tests.{eqb-true, leb-true, lt-ltb, le-ltb}
-use lib.Dec.{eqb, leb, ltb}
+use borrow.Author.Tests.{eqb-true, leb-true}
+use lib.Dec.{eqb, leb}
 use lib.ListN.{get_or}
+use Rattle.std.specs.Int.{from_bool}
 use Rattle.trace.specs.Sweeps.{every}
 use Rattle.trace.proofs.Sweeps.{every-at}
 use Rattle.trace.proofs.Tests.{and_l, and_r, chosen}
@@ -14,42 +15,40 @@ use Rattle.calendar.specs.Dates.{month_length, days_of_months, days_before}
 
 -- ---- the table: "the days before each month"
 
--- as the code has it
-abbrev pub table : List ℕ
-table =
-    0 ∷ 31 ∷ 59 ∷ 90 ∷ 120 ∷ 151 ∷ 181 ∷ 212 ∷ 243 ∷ 273 ∷ 304 ∷ 334 ∷ 365 ∷ 0 ∷ 31 ∷ 60 ∷ 91 ∷ 121 ∷ 152 ∷ 182 ∷ 213 ∷ 244 ∷ 274 ∷ 305 ∷ 335 ∷ 366 ∷ []
+-- as the code has it: 13 entries of a common year, and 13 of a leap year
+abbrev pub row : Bool → List ℕ
+row false = 0 ∷ 31 ∷ 59 ∷ 90 ∷ 120 ∷ 151 ∷ 181 ∷ 212 ∷ 243 ∷ 273 ∷ 304 ∷ 334 ∷ 365 ∷ []
+row true = 0 ∷ 31 ∷ 60 ∷ 91 ∷ 121 ∷ 152 ∷ 182 ∷ 213 ∷ 244 ∷ 274 ∷ 305 ∷ 335 ∷ 366 ∷ []
 
--- what entry k should be: 13 of a common year, then 13 of a leap year
-abbrev entry_of : ℕ → ℕ
-entry_of k = cond (ltb k 13) (days_of_months false k) (days_of_months true (k - 13))
+-- each entry is what it should be, and at most 366
+abbrev right : Bool → ℕ → Bool
+right leap k = eqb (get_or (row leap) k 0) (days_of_months leap k) && leb (get_or (row leap) k 0) 366
 
--- each entry is that, and at most 366
-abbrev right : ℕ → Bool
-right k = eqb (get_or table k 0) (entry_of k) && leb (get_or table k 0) 366
-
-all_right : every right 26 ≡ true
+all_right : (every (right false) 13 && every (right true) 13) ≡ true
 unfolding every days_of_months month_length
 all_right = refl
+
+row-right : (leap : Bool) → every (right leap) 13 ≡ true
+row-right false = and_l (every (right false) 13) (every (right true) 13) all_right
+row-right true = and_r (every (right false) 13) (every (right true) 13) all_right
 
 -- what the code promises of an entry that it takes for a month of such a year
 abbrev pub Before : Bool → ℕ → ℕ → Type 0
 Before leap month entry = (entry ≡ days_before leap month) × (entry ≤ 366)
 
-entry-is : (k : ℕ) → k < 26 → (get_or table k 0 ≡ entry_of k) × (get_or table k 0 ≤ 366)
-entry-is k l =
-    let e = every-at right 26 all_right k l in (
-      eqb-true (get_or table k 0) (entry_of k) (and_l (eqb (get_or table k 0) (entry_of k)) (leb (get_or table k 0) 366) e),
-      leb-true (get_or table k 0) 366 (and_r (eqb (get_or table k 0) (entry_of k)) (leb (get_or table k 0) 366) e),
+pub before-month : (leap : Bool) (month : ℕ) → 1 ≤ month → month ≤ 13 → Before leap month (get_or (row leap) (month - 1) 0)
+before-month leap month least most =
+    let k = month - 1 in
+    let e = every-at (right leap) 13 (row-right leap) k (omega arith) in (
+      eqb-true (get_or (row leap) k 0) (days_of_months leap k) (and_l (eqb (get_or (row leap) k 0) (days_of_months leap k)) (leb (get_or (row leap) k 0) 366) e),
+      leb-true (get_or (row leap) k 0) 366 (and_r (eqb (get_or (row leap) k 0) (days_of_months leap k)) (leb (get_or (row leap) k 0) 366) e),
     )
 
-module _ (month : ℕ) (least : 1 ≤ month) (most : month ≤ 13) where
-  pub common-entry : Before false month (get_or table (month - 1) 0)
-  common-entry = rw (lt-ltb (month - 1) 13 (omega arith)) at (entry-is (month - 1) (omega arith))
-
-  pub leap-entry : Before true month (get_or table (month + 12) 0)
-  leap-entry =
-      let back : month + 12 - 13 ≡ month - 1 = omega arith in
-      rw (le-ltb (month + 12) 13 (omega arith), back) at (entry-is (month + 12) (omega arith))
+-- as the code finds it: the row by the number of the `bool`
+pub table-entry : (leap : Bool) (n month : ℕ) → n ≡ from_bool leap → 1 ≤ month → month ≤ 13
+    → get_or (get_or (row false ∷ row true ∷ []) n []) (month - 1) 0 ≡ days_before leap month
+table-entry false n month e least most = rw e (before-month false month least most).0
+table-entry true n month e least most = rw e (before-month true month least most).0
 
 -- ---- a month
 

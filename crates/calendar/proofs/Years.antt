@@ -1,10 +1,11 @@
 -- The days of the years from 2000 on, every fourth of them a leap year up to 2100, by one test over all of them. Assumes nothing.
 use mathlib.Core.Path.{◌≡◌, refl}
 use mathlib.Core.Bool.{Bool, true, ◌&&◌}
-use Prim.Native.Nat.{ℕ, ◌+◌, ◌*◌, ◌/◌, ◌≤◌}
+use Prim.Native.Nat.{ℕ, ◌+◌, ◌*◌, ◌≤◌}
 use native.Mathlib.Omega.{arith}
 use borrow.Author.Tests.{eqb-true, leb-true}
 use lib.Dec.{eqb, leb}
+use Rattle.std.specs.Int.{div_ceil}
 use Rattle.trace.specs.Sweeps.{every}
 use Rattle.trace.proofs.Sweeps.{every-at}
 use Rattle.trace.proofs.Tests.{and_l, and_r}
@@ -12,7 +13,7 @@ use Rattle.calendar.specs.Dates.{is_leap, month_length, days_of_months}
 use Rattle.calendar.specs.Ordinals.{days_of_years}
 
 abbrev pub quick : ℕ → ℕ
-quick years = 365 * years + (years + 3) / 4
+quick years = 365 * years + div_ceil years 4
 
 abbrev right : ℕ → Bool
 right years = eqb (quick years) (days_of_years years) && leb (quick years) 36525

@@ -1,11 +1,9 @@
 -- The ordinal of a date: the number of its day from the start of 2000 on, 1 for 1 January 2000. A date is later than another where its
 -- ordinal is greater: `proofs/Order.antt` shows that this is the order of year, month and day.
-use Rattle.std.specs.Prelude.{cond, ℕ, zero, suc, ◌+◌, ◌-◌, ◌≤◌}
+use Rattle.std.specs.Prelude.{cond, ℕ, zero, suc, ◌+◌, ◌-◌, ◌≤◌, Option, Some, None}
 use Rattle.calendar.specs.Dates.{is_leap, days_of_months, days_before, is_date, three_months_later}
 use Rattle.calendar.specs.declared.Date.{Date}
 use Rattle.calendar.specs.declared.Window.{Window}
-use Rattle.calendar.specs.declared.Found.{Found}
-use Rattle.calendar.specs.declared.Found.TheVariants.{At, Nothing}
 
 -- the days of a year, and of the first k years from 2000 on
 abbrev pub year_length : ℕ → ℕ
@@ -23,8 +21,8 @@ unfoldable pub window_of : Date → Window
 window_of date = record { start = ordinal_of date; end = ordinal_of (three_months_later date) }
 
 -- what any three numbers are answered
-unfoldable pub found_of : Date → Found
-found_of date = cond (is_date date) (At (window_of date)) Nothing
+unfoldable pub found_of : Date → Option Window
+found_of date = cond (is_date date) (Some (window_of date)) None
 
 -- Numbers of which the code works out an ordinal: those of a date, also of one three months after the end of 2099.
 pub record Placed (date : Date) : Type 0 where

@@ -2,12 +2,12 @@
 // day from the start of 2000 on, so that whoever keeps dates keeps and compares numbers.
 #![tactic(auto)]
 
-ghost use Rattle.std.specs.Prelude.{◌≡◌, true, ◌≤◌, min};
+ghost use Rattle.std.specs.Prelude.{◌≡◌, true, ◌≤◌};
 ghost use Rattle.calendar.specs.Dates.{is_leap, month_length, days_before, is_month, is_date, moved_to, three_months_later};
-ghost use Rattle.calendar.specs.Ordinals.{days_of_years, ordinal_of, window_of, found_of, Placed};
+ghost use Rattle.calendar.specs.Ordinals.{days_of_years, ordinal_of, found_of, Placed};
 
 // Any three numbers: month 1 is January.
-#[derive(Clone, Copy)]
+#[derive(Clone, Copy, Debug, PartialEq, Eq, Hash)]
 pub struct Date {
     pub year: u32,
     pub month: u32,
@@ -15,32 +15,23 @@ pub struct Date {
 }
 
 // The ordinals of a date and of the date three months later.
-#[derive(Clone, Copy)]
+#[derive(Clone, Copy, Debug, PartialEq, Eq, Hash)]
 pub struct Window {
     pub start: u32,
     pub end: u32,
 }
 
-// What is found of three numbers: nothing where there is no such date.
-#[derive(Clone, Copy)]
-pub enum Found {
-    At(Window),
-    Nothing,
-}
-
-// The days before each month, and before the end of the year.
-const DAYS_BEFORE: [u32; 26] = [
-    // A common year.
-    0, 31, 59, 90, 120, 151, 181, 212, 243, 273, 304, 334, 365,
-    // A leap year.
-    0, 31, 60, 91, 121, 152, 182, 213, 244, 274, 305, 335, 366,
+// The days before each month, and before the end of the year, of a common year and of a leap year.
+const DAYS_BEFORE: [[u32; 13]; 2] = [
+    [0, 31, 59, 90, 120, 151, 181, 212, 243, 273, 304, 334, 365],
+    [0, 31, 60, 91, 121, 152, 182, 213, 244, 274, 305, 335, 366],
 ];
 
 #[tactic(auto, unfolding(crate::specs::Dates::is_leap))]
 fn is_leap(year: u32) -> bool
     ensures { result ≡ is_leap year }
 {
-    (year % 4 == 0) & ((year % 100 != 0) | (year % 400 == 0))
+    year % 4 == 0 && (year % 100 != 0 || year % 400 == 0)
 }
 
 // Month 13 is the end of the year.
@@ -49,12 +40,7 @@ fn days_before(year: u32, month: u32) -> u32
     ensures value { result ≡ days_before (is_leap year) month }
     ensures small { result ≤ 366 }
 {
-    let common = (month - 1) as usize;
-    let leap = (month + 12) as usize;
-    if is_leap(year) {
-        return DAYS_BEFORE[leap];
-    }
-    DAYS_BEFORE[common]
+    DAYS_BEFORE[usize::from(is_leap(year))][(month - 1) as usize]
 }
 
 fn month_length(year: u32, month: u32) -> u32
@@ -70,30 +56,21 @@ fn days_of_years(years: u32) -> u32
     ensures value { result ≡ days_of_years years }
     ensures small { result ≤ 36525 }
 {
-    365 * years + (years + 3) / 4
-}
-
-fn lesser(a: u32, b: u32) -> u32
-    ensures { result ≡ min a b }
-{
-    if a < b { a } else { b }
+    365 * years + years.div_ceil(4)
 }
 
 impl Date {
     fn is_month(self) -> bool
         ensures { result ≡ is_month self }
     {
-        ((2000 <= self.year) & (self.year <= 2099)) & ((1 <= self.month) & (self.month <= 12))
+        (2000..=2099).contains(&self.year) && (1..=12).contains(&self.month)
     }
 
     #[tactic(auto, unfolding(crate::specs::Dates::is_date))]
     fn is_date(self) -> bool
         ensures { result ≡ is_date self }
     {
-        if self.is_month() {
-            return (1 <= self.day) & (self.day <= month_length(self.year, self.month));
-        }
-        false
+        self.is_month() && (1..=month_length(self.year, self.month)).contains(&self.day)
     }
 
     // The same day number in another month, or that month's last day.
@@ -105,7 +82,7 @@ impl Date {
         Date {
             year,
             month,
-            day: lesser(self.day, month_length(year, month)),
+            day: self.day.min(month_length(year, month)),
         }
     }
 
@@ -115,9 +92,10 @@ impl Date {
         ensures { result ≡ three_months_later self }
     {
         if self.month < 10 {
-            return self.moved_to(self.year, self.month + 3);
+            self.moved_to(self.year, self.month + 3)
+        } else {
+            self.moved_to(self.year + 1, self.month - 9)
         }
-        self.moved_to(self.year + 1, self.month - 9)
     }
 
     #[tactic(auto, unfolding(crate::specs::Ordinals::ordinal_of))]
@@ -127,26 +105,18 @@ impl Date {
     {
         days_of_years(self.year - 2000) + (days_before(self.year, self.month) + self.day)
     }
-
-    #[tactic(auto, unfolding(crate::specs::Ordinals::window_of))]
-    fn window(self) -> Window
-        requires { is_date self ≡ true }
-        ensures { result ≡ window_of self }
-    {
-        Window {
-            start: self.ordinal(),
-            end: self.three_months_later().ordinal(),
-        }
-    }
 }
 
 // The date's ordinal and that of the date three months later, where there is such a date.
-#[tactic(auto, unfolding(crate::specs::Ordinals::found_of))]
-pub fn window_of(date: Date) -> Found
+#[tactic(auto, unfolding(crate::specs::Ordinals::found_of, crate::specs::Ordinals::window_of))]
+pub fn window_of(date: Date) -> Option<Window>
     ensures { result ≡ found_of date }
 {
-    if date.is_date() {
-        return Found::At(date.window());
+    if !date.is_date() {
+        return None;
     }
-    Found::Nothing
+    Some(Window {
+        start: date.ordinal(),
+        end: date.three_months_later().ordinal(),
+    })
 }

@@ -2,40 +2,35 @@
 use mathlib.Core.Path.{◌≡◌, refl, sym, ◌∙◌}
 use mathlib.Core.Logic.{◌⊎◌, inl, inr}
 use mathlib.Core.Bool.{Bool, true, false, cond, not, false≢true, or-true}
-use Prim.Native.Nat.{ℕ}
-use native.Mathlib.Omega.{arith}
-use Rattle.trace.specs.Refusals.{first_refusal}
+use Rattle.std.specs.Prelude.{Some, None}
+use Rattle.trace.specs.Refusals.{first_of}
 use Rattle.trace.proofs.Lists.{SetAndCleared}
 use Rattle.trace.proofs.Tests.{or_cases}
 use Rattle.calendar.specs.declared.Date.{Date}
 use Rattle.response.specs.declared.Day.{Day}
-use Rattle.ledger.specs.Calls.{Call, enter, reinstate}
-use Rattle.ledger.specs.History.{entry_of, holds, held_at_some, History, verdict_by, verdict, effect, extend_by, extend}
+use Rattle.ledger.specs.Calls.{Call, enter, reinstate, Verdict}
+use Rattle.ledger.specs.History.{entry_of, holds, held_at_some, History, verdict, effect, extend_by, extend}
 use Rattle.ledger.specs.Promises.{Declares, at_day, Reinstates}
-use Rattle.ledger.specs.declared.Verdict.{Verdict}
-use Rattle.ledger.specs.declared.Verdict.TheVariants.{Accept, Refuse}
+use Rattle.ledger.specs.declared.LedgerRefusal.TheVariants.{NotDeclared}
 use Rattle.ledger.proofs.Rules.{holds-held, held-holds}
 
 abbrev pub declared_in : History → Bool
 declared_in h = held_at_some h.days
 
-no-refusal : (k : ℕ) → Refuse k ≡ Accept → ⊥
-no-refusal k e = let z : ◌≡◌ {A = ℕ} 0 1 = cc in omega arith
-
 a-day : (date : Date) (day : Day) → enter date day ≡ reinstate → ⊥
-a-day date day e = let z : ◌≡◌ {A = ℕ} 0 1 = cc in omega arith
+a-day date day e = cc
 
 module _ (h : History) where
   -- a reinstatement is accepted exactly where the test is set, and clears it
-  reinstates : declared_in h ≡ true → verdict h reinstate ≡ Accept
-  unfolding first_refusal
+  reinstates : declared_in h ≡ true → verdict h reinstate ≡ None
+  unfolding first_of
   reinstates t = rw t
 
   not-reinstated : declared_in (extend h reinstate) ≡ false
-  unfolding first_refusal held_at_some
+  unfolding first_of held_at_some
   not-reinstated = go (declared_in h) refl
     where
-      go : (t : Bool) → declared_in h ≡ t → declared_in (extend_by (verdict_by (cond (not t) 35 0)) h (effect h reinstate)) ≡ false
+      go : (t : Bool) → declared_in h ≡ t → declared_in (extend_by (cond (not t) (Some NotDeclared) None) h (effect h reinstate)) ≡ false
       go true e = refl
       go false e = e
 
@@ -48,8 +43,8 @@ module _ (h : History) where
   keeps (enter date day) t r = go (verdict h (enter date day))
     where
       go : (v : Verdict) → declared_in (extend_by v h (effect h (enter date day))) ≡ true
-      go Accept = rw t (or-true (holds (entry_of date day) h.days))
-      go (Refuse k) = t
+      go None = rw t (or-true (holds (entry_of date day) h.days))
+      go (Some refusal) = t
   keeps reinstate t r = absurd (r (refl, reinstates t))
 
   only : (c : Call) → declared_in (extend h c) ≡ true → Declares h c ⊎ ((declared_in h ≡ true) × ¬ Reinstates h c)
@@ -59,15 +54,15 @@ module _ (h : History) where
       kept : declared_in h ≡ true → (declared_in h ≡ true) × ¬ Reinstates h (enter date day)
       kept e = (e, λ r. a-day date day r.0)
 
-      by : verdict h (enter date day) ≡ Accept → (holds (entry_of date day) h.days ≡ true) ⊎ (declared_in h ≡ true)
+      by : verdict h (enter date day) ≡ None → (holds (entry_of date day) h.days ≡ true) ⊎ (declared_in h ≡ true)
           → Declares h (enter date day) ⊎ ((declared_in h ≡ true) × ¬ Reinstates h (enter date day))
       by v (inl e) = inl (at_day date day v (holds-held (entry_of date day) h.days e))
       by v (inr e) = inr (kept e)
 
       go : (v : Verdict) → verdict h (enter date day) ≡ v → declared_in (extend_by v h (effect h (enter date day))) ≡ true
           → Declares h (enter date day) ⊎ ((declared_in h ≡ true) × ¬ Reinstates h (enter date day))
-      go Accept v e = by v (or_cases (holds (entry_of date day) h.days) (declared_in h) e)
-      go (Refuse k) v e = inr (kept e)
+      go None v e = by v (or_cases (holds (entry_of date day) h.days) (declared_in h) e)
+      go (Some refusal) v e = inr (kept e)
   only reinstate t = absurd (false≢true (sym not-reinstated ∙ t))
 
 pub declaration-laws : SetAndCleared extend Declares Reinstates declared_in

@@ -1,15 +1,12 @@
 -- What a day is to the ledger (02, 2026-05; 002, section 4.1 (b)).
-use Rattle.std.specs.Prelude.{Bool, true, false, cond, ◌||◌, eqb, ltb}
+use Rattle.std.specs.Prelude.{Bool, true, false, cond, ◌||◌, eqb, ltb, Option, is_some}
 use Rattle.response.specs.declared.Day.{Day}
 use Rattle.records.specs.declared.Flag.{Flag}
-use Rattle.records.specs.declared.Flag.TheVariants.{None, Under, Over}
 use Rattle.ledger.specs.declared.Conduct.{Conduct}
 use Rattle.ledger.specs.declared.Conduct.TheVariants.{Undispatched, Conformant, Nonconformant}
 
-abbrev pub is_flagged : Flag → Bool
-is_flagged None = false
-is_flagged Under = true
-is_flagged Over = true
+abbrev pub is_flagged : Option Flag → Bool
+is_flagged flag = is_some flag
 
 -- "any flag, the day's own or an interval's"
 abbrev pub has_flag : Day → Bool

@@ -1,17 +1,17 @@
 -- What has happened, worked out from the calls alone, first call to last: no ledger goes in. It keeps every day that was accepted since the
 -- last accepted reinstatement, and the rule of 2026-05 is read off these days.
-use Rattle.std.specs.Prelude.{◌≡◌, ◌⊎◌, Bool, true, false, cond, not, ◌&&◌, ◌||◌, List, [], ◌∷◌, ◌++◌, ℕ, zero, suc, ◌≤◌, leb}
+use Rattle.std.specs.Prelude.{◌≡◌, ◌⊎◌, Bool, true, false, cond, not, ◌&&◌, ◌||◌, List, [], ◌∷◌, ◌++◌, ℕ, ◌≤◌, leb, Option, Some, None}
 use Rattle.trace.specs.Lists.{fold, count_in}
-use Rattle.trace.specs.Refusals.{first_refusal}
+use Rattle.trace.specs.Refusals.{first_refusal, first_of}
 use Rattle.calendar.specs.Dates.{is_date, three_months_later}
 use Rattle.calendar.specs.Ordinals.{ordinal_of}
 use Rattle.calendar.specs.declared.Date.{Date}
 use Rattle.response.specs.declared.Day.{Day}
 use Rattle.ledger.specs.Days.{conduct_of, is_conformant, is_instance}
-use Rattle.ledger.specs.Calls.{Call, enter, reinstate}
+use Rattle.ledger.specs.Calls.{Call, enter, reinstate, Verdict}
 use Rattle.ledger.specs.declared.Conduct.{Conduct}
-use Rattle.ledger.specs.declared.Verdict.{Verdict}
-use Rattle.ledger.specs.declared.Verdict.TheVariants.{Accept, Refuse}
+use Rattle.ledger.specs.declared.LedgerRefusal.{LedgerRefusal}
+use Rattle.ledger.specs.declared.LedgerRefusal.TheVariants.{NoDate, NotLater, NotDeclared}
 
 -- an accepted day
 pub record Entry : Type 0 where
@@ -66,9 +66,8 @@ held_at_some (e ∷ days) = holds e days || held_at_some days
 
 -- ---- the history
 
-pub data Latest : Type 0 where
-  none : Latest
-  on : Date → Latest
+abbrev pub Latest : Type 0
+Latest = Option Date
 
 -- the last accepted date, and the days accepted since the last accepted reinstatement, the latest first
 pub record History : Type 0 where
@@ -77,32 +76,33 @@ pub record History : Type 0 where
 
 -- "from an empty ledger on (no date, no instance, not declared)"
 abbrev pub begin : History
-begin = record { latest = none; days = [] }
+begin = record { latest = None; days = [] }
 
 -- "date not later than the last accepted one"
 abbrev pub not_later : Date → Latest → Bool
-not_later date none = false
-not_later date (on last) = leb (ordinal_of date) (ordinal_of last)
+not_later date None = false
+not_later date (Some last) = leb (ordinal_of date) (ordinal_of last)
 
 abbrev pub refusal : History → Call → ℕ
 refusal h (enter date day) = first_refusal ((33, not (is_date date)) ∷ (34, not_later date h.latest) ∷ [])
 refusal h reinstate = first_refusal ((35, not (held_at_some h.days)) ∷ [])
 
-abbrev pub verdict_by : ℕ → Verdict
-verdict_by zero = Accept
-verdict_by (suc k) = Refuse (suc k)
+-- the same by name
+abbrev pub refusals : History → Call → List (LedgerRefusal × Bool)
+refusals h (enter date day) = (NoDate, not (is_date date)) ∷ (NotLater, not_later date h.latest) ∷ []
+refusals h reinstate = (NotDeclared, not (held_at_some h.days)) ∷ []
 
 abbrev pub verdict : History → Call → Verdict
-verdict h c = verdict_by (refusal h c)
+verdict h c = first_of (refusals h c)
 
 -- what an accepted call makes of it
 abbrev pub effect : History → Call → History
-effect h (enter date day) = record { latest = on date; days = entry_of date day ∷ h.days }
+effect h (enter date day) = record { latest = Some date; days = entry_of date day ∷ h.days }
 effect h reinstate = record { latest = h.latest; days = [] }
 
 abbrev pub extend_by : Verdict → History → History → History
-extend_by Accept old new = new
-extend_by (Refuse k) old new = old
+extend_by None old new = new
+extend_by (Some refusal) old new = old
 
 abbrev pub extend : History → Call → History
 extend h c = extend_by (verdict h c) h (effect h c)

@@ -1,21 +1,20 @@
 -- What holds of every list of calls, refused ones included, from the empty ledger on (02, 2026-05: "declared holds exactly when that rule
 -- held at some day since the last accepted reinstatement, or since the start if there was none").
-use Rattle.std.specs.Prelude.{◌≡◌, ◌↔◌, true, List, ◌∷◌}
+use Rattle.std.specs.Prelude.{◌≡◌, ◌↔◌, true, List, ◌∷◌, map, None}
 use Rattle.trace.specs.Lists.{outcomes, Since}
 use Rattle.calendar.specs.declared.Date.{Date}
 use Rattle.response.specs.declared.Day.{Day}
 use Rattle.ledger.specs.Ledgers.{empty}
-use Rattle.ledger.specs.Calls.{Call, enter, reinstate, after, run}
-use Rattle.ledger.specs.History.{entry_of, Held, held_at_some, History, begin, verdict, extend, history}
+use Rattle.ledger.specs.Calls.{Call, enter, reinstate, verdict_number, after, run}
+use Rattle.ledger.specs.History.{entry_of, Held, held_at_some, History, begin, refusal, verdict, extend, history}
 use Rattle.ledger.specs.declared.Ledger.{Ledger}
-use Rattle.ledger.specs.declared.Verdict.TheVariants.{Accept}
 
 -- a day that is accepted, and at which the rule holds of the days since reinstatement
 pub data Declares (h : History) : Call → Type 0 where
-  at_day : (date : Date) (day : Day) → verdict h (enter date day) ≡ Accept → Held (entry_of date day ∷ h.days) → Declares h (enter date day)
+  at_day : (date : Date) (day : Day) → verdict h (enter date day) ≡ None → Held (entry_of date day ∷ h.days) → Declares h (enter date day)
 
 abbrev pub Reinstates : History → Call → Type 0
-Reinstates h c = (c ≡ reinstate) × (verdict h c ≡ Accept)
+Reinstates h c = (c ≡ reinstate) × (verdict h c ≡ None)
 
 -- "held at some day since the last accepted reinstatement, or since the start if there was none": the list splits into calls before, that
 -- day, and later calls, none of which is an accepted reinstatement
@@ -26,8 +25,9 @@ pub record Promise (l : Ledger) : Type 0 where
   pub exactly : (calls : List Call) → ((after l calls).declared ≡ true) ↔ Declared calls
   -- the same by the history's own recursion, by which a reinstatement is accepted
   pub recursive : (calls : List Call) → (held_at_some (history calls).days ≡ true) ↔ Declared calls
-  -- every acceptance and refusal number is the one that the history gives
+  -- every acceptance and refusal is the one that the history gives, and so is its number
   pub bridge : (calls : List Call) → run l calls ≡ outcomes extend verdict begin calls
+  pub numbers : (calls : List Call) → map verdict_number (run l calls) ≡ outcomes extend refusal begin calls
 
 -- what the function that makes the empty ledger promises
 pub record Begins (r : Ledger) : Type 0 where

@@ -9,11 +9,7 @@ impl Conduct {
     pub(crate) fn is_instance(self) -> bool
         ensures { result ≡ is_instance self }
     {
-        match self {
-            Conduct::Undispatched => false,
-            Conduct::Conformant => false,
-            Conduct::Nonconformant => true,
-        }
+        matches!(self, Conduct::Nonconformant)
     }
 }
 
@@ -22,8 +18,8 @@ impl Instance {
         ensures { result ≡ conformed self }
     {
         Instance {
-            end: self.end,
             conformed: true,
+            ..self
         }
     }
 }
@@ -32,20 +28,18 @@ impl Instances {
     fn conformed(self) -> Instances
         ensures { result ≡ all_conformed self }
     {
-        match self {
-            Instances::Zero => Instances::Zero,
-            Instances::One(a) => Instances::One(a.conformed()),
-            Instances::Two(a, b) => Instances::Two(a.conformed(), b.conformed()),
+        Instances {
+            earlier: self.earlier.map(|instance| instance.conformed()),
+            latest: self.latest.map(|instance| instance.conformed()),
         }
     }
 
-    fn noted(self, latest: Instance) -> Instances
-        ensures { result ≡ noted self latest }
+    fn noted(self, instance: Instance) -> Instances
+        ensures { result ≡ noted self instance }
     {
-        match self {
-            Instances::Zero => Instances::One(latest),
-            Instances::One(a) => Instances::Two(a, latest),
-            Instances::Two(_, b) => Instances::Two(b, latest),
+        Instances {
+            earlier: self.latest,
+            latest: Some(instance),
         }
     }
 
@@ -69,10 +63,7 @@ impl Instances {
     pub(crate) fn third_declares(self, third: u32) -> bool
         ensures { result ≡ third_declares self third }
     {
-        match self {
-            Instances::Zero => false,
-            Instances::One(_) => false,
-            Instances::Two(first, _) => (third <= first.end) | !first.conformed,
-        }
+        self.earlier
+            .is_some_and(|first| third <= first.end || !first.conformed)
     }
 }

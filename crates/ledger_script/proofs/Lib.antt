@@ -1,5 +1,4 @@
 -- What belongs to no one function.
 pub mod Lines
-pub mod Turns
 pub mod Readings
 pub mod Told

@@ -1,6 +1,6 @@
 -- What the bytes of a call say, by the tests that the code makes. Assumes nothing.
 use mathlib.Core.Path.{◌≡◌, refl}
-use mathlib.Core.Bool.{true, false, ◌&&◌}
+use mathlib.Core.Bool.{true, false}
 use mathlib.Core.List.{List, [], ◌∷◌}
 use Prim.Native.Nat.{ℕ, ◌≤◌, ◌<◌}
 use native.Mathlib.Omega.{arith}
@@ -9,11 +9,12 @@ use lib.Dec.{eqb}
 use lib.ListN.{length, drop}
 use Rattle.wire.specs.Fields.{word_at}
 use Rattle.frames.specs.Frames.{is_frame}
-use Rattle.text.proofs.Puts.{nothing}
+use Rattle.turns.specs.Steps.{Steps}
+use Rattle.turns.specs.declared.Turn.{Turn}
+use Rattle.turns.proofs.Turns.{silent}
 use Rattle.ledger.specs.declared.Ledger.{Ledger}
 use Rattle.ledger_script.specs.Items.{unreadable, days, reinstates, date_of, day_item, payload_item, item_of}
-use Rattle.ledger_script.specs.Steps.{made_by, step_of, Steps}
-use Rattle.ledger_script.proofs.Turns.{turned}
+use Rattle.ledger_script.specs.Steps.{made_by, step_of}
 
 module _ (payload : List ℕ) where
   pub day-short : length payload < 12 → day_item payload ≡ unreadable
@@ -29,13 +30,18 @@ module _ (payload : List ℕ) where
     unfolding payload_item
     payload-day e = rw (eq-eqb tag 1 e)
 
-    pub payload-reinstate : (tag ≡ 1 → ⊥) → (eqb tag 2 && eqb (length payload) 0) ≡ true → payload_item tag payload ≡ reinstates
+    pub payload-reinstate : tag ≡ 2 → eqb (length payload) 0 ≡ true → payload_item tag payload ≡ reinstates
     unfolding payload_item
-    payload-reinstate e f = rw (ne_eqb tag 1 e, f)
+    payload-reinstate e f = rw (e, f)
 
-    pub payload-unread : (tag ≡ 1 → ⊥) → (eqb tag 2 && eqb (length payload) 0) ≡ false → payload_item tag payload ≡ unreadable
+    -- behind the tag of a reinstatement, and behind any other one
+    pub payload-longer : tag ≡ 2 → eqb (length payload) 0 ≡ false → payload_item tag payload ≡ unreadable
     unfolding payload_item
-    payload-unread e f = rw (ne_eqb tag 1 e, f)
+    payload-longer e f = rw (e, f)
+
+    pub payload-other : (tag ≡ 1 → ⊥) → (tag ≡ 2 → ⊥) → payload_item tag payload ≡ unreadable
+    unfolding payload_item
+    payload-other e f = rw (ne_eqb tag 1 e, ne_eqb tag 2 f)
 
 module _ (bytes : List ℕ) where
   pub item-frame : is_frame bytes ≡ true → item_of bytes ≡ payload_item (word_at bytes 0) (drop 8 bytes)
@@ -51,8 +57,8 @@ unfolding step_of
 step-item l at [] e = absurd (e refl)
 step-item l at (byte ∷ bytes) e = refl
 
-pub step_end : (l : Ledger) (at : ℕ) (bytes out : List ℕ) → length bytes ≡ 0
-    → Steps (step_of l at bytes) (record { ledger = l; more = false; length = 0 }) out out
+pub step_end : (l : Ledger) (at : ℕ) (bytes out : List ℕ) (r : Turn Ledger) → length bytes ≡ 0
+    → r ≡ record { state = l; more = false; length = 0 } → Steps (step_of l at bytes) r out out
 unfolding step_of
-step_end l at [] out e = turned (step_of l at []) l false refl refl (nothing out 0)
-step_end l at (byte ∷ bytes) out e = absurd (omega arith)
+step_end l at [] out r e is = silent (step_of l at []) r refl is
+step_end l at (byte ∷ bytes) out r e is = absurd (omega arith)

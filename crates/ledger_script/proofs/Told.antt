@@ -4,18 +4,17 @@ use mathlib.Core.Logic.{◌⊎◌, inl, inr}
 use mathlib.Core.Bool.{Bool, true, false, false≢true}
 use mathlib.Core.List.{List, [], ◌∷◌, ◌++◌}
 use Prim.Native.Nat.{ℕ}
+use Rattle.std.specs.Prelude.{None, Result, Ok, Err}
 use Rattle.trace.specs.Lists.{fold}
 use Rattle.trace.proofs.Lists.{fold-append}
 use Rattle.calendar.specs.declared.Date.{Date}
 use Rattle.response.specs.Answers.{file_answer}
-use Rattle.response.specs.declared.Answer.{Answer}
-use Rattle.response.specs.declared.Answer.TheVariants.{Assessed, Refused}
+use Rattle.response.specs.declared.DayRefusal.{DayRefusal}
 use Rattle.response.specs.declared.Day.{Day}
 use Rattle.ledger.specs.Ledgers.{empty}
 use Rattle.ledger.specs.Calls.{Call, enter, next, answer, after}
 use Rattle.ledger.specs.Promises.{Declared}
 use Rattle.ledger.specs.declared.Ledger.{Ledger}
-use Rattle.ledger.specs.declared.Verdict.TheVariants.{Accept}
 use Rattle.ledger.proofs.Promised.{exactly}
 use Rattle.ledger_script.specs.Items.{Item, unreadable, days, reinstates}
 use Rattle.ledger_script.specs.Texts.{accepted_text}
@@ -24,18 +23,18 @@ use Rattle.ledger_script.specs.Outcomes.{file_calls, item_calls, calls_of}
 
 -- ---- the ledger is the one after the calls that were made
 
-file-calls : (l : Ledger) (date : Date) (a : Answer) → (made_file l date a).ledger ≡ after l (file_calls date a)
-file-calls l date (Refused number) = refl
-file-calls l date (Assessed day) = refl
+file-calls : (l : Ledger) (date : Date) (a : Result Day DayRefusal) → (made_file l date a).state ≡ after l (file_calls date a)
+file-calls l date (Err refusal) = refl
+file-calls l date (Ok day) = refl
 
-made-calls : (l : Ledger) (at : ℕ) (item : Item) → (made_by l at item).ledger ≡ after l (item_calls item)
+made-calls : (l : Ledger) (at : ℕ) (item : Item) → (made_by l at item).state ≡ after l (item_calls item)
 made-calls l at unreadable = refl
 made-calls l at (days date file) = file-calls l date (file_answer file)
 made-calls l at reinstates = refl
 
 -- the ledger that a list of items leads to, each with the place of its tag
 abbrev made : Ledger → ℕ × Item → Ledger
-made l i = (made_by l i.0 i.1).ledger
+made l i = (made_by l i.0 i.1).state
 
 abbrev items : List (ℕ × Item) → List Item
 items [] = []
@@ -50,7 +49,7 @@ list-calls (i ∷ rest) l =
 
 -- ---- DECLARED is 1 exactly where the rule held since the last accepted reinstatement
 
-module _ (calls : List Call) (date : Date) (day : Day) (accepted : answer (after empty calls) (enter date day) ≡ Accept) where
+module _ (calls : List Call) (date : Date) (day : Day) (accepted : answer (after empty calls) (enter date day) ≡ None) where
   abbrev with-day : List Call
   with-day = calls ++ (enter date day ∷ [])
 

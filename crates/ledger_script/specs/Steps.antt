@@ -1,41 +1,39 @@
 -- A step through a list of calls in a file: from the ledger and the bytes that were read to the next ledger, whether the run goes on, and
 -- the text to write.
-use Rattle.std.specs.Prelude.{◌≡◌, Bool, true, false, List, [], ◌∷◌, ◌++◌, ℕ, length, drop}
+use Rattle.std.specs.Prelude.{true, false, List, [], ◌∷◌, ℕ, Result, Ok, Err}
+use Rattle.turns.specs.Steps as turns
 use Rattle.calendar.specs.declared.Date.{Date}
-use Rattle.response.specs.Answers.{file_answer}
-use Rattle.response.specs.declared.Answer.{Answer}
-use Rattle.response.specs.declared.Answer.TheVariants.{Assessed, Refused}
+use Rattle.response.specs.Answers.{day_refusal_number, file_answer}
 use Rattle.response.specs.declared.Day.{Day}
-use Rattle.ledger.specs.Calls.{enter, reinstate, stepped}
+use Rattle.response.specs.declared.DayRefusal.{DayRefusal}
+use Rattle.ledger.specs.Calls.{enter, reinstate, verdict_of, ledger_after, answered}
 use Rattle.ledger.specs.declared.Ledger.{Ledger}
 use Rattle.ledger_script.specs.Items.{Item, unreadable, days, reinstates, item_of}
 use Rattle.ledger_script.specs.Texts.{refused_text, day_text, reinstate_text, error_text}
-use Rattle.ledger_script.specs.declared.Turn.{Turn}
 
 -- what a step comes to
-pub record Outcome : Type 0 where
-  pub ledger : Ledger
-  pub more : Bool
-  pub text : List ℕ
+abbrev pub Outcome : Type 0
+Outcome = turns.Outcome Ledger
 
 abbrev pub unread : Ledger → ℕ → Outcome
-unread l at = record { ledger = l; more = false; text = error_text at }
+unread l at = record { state = l; more = false; text = error_text at }
 
 -- a day that was assessed
 abbrev pub made_day : Ledger → Date → Day → Outcome
 made_day l date day =
-    let r = stepped l (enter date day) in
-    record { ledger = r.ledger; more = true; text = day_text day r.ledger.declared r.verdict }
+    let r = answered l (enter date day) in
+    let next = ledger_after l r in
+    record { state = next; more = true; text = day_text day next.declared (verdict_of r) }
 
 -- "31 and 32 of the day's own assessment go before 33 and 34"
-abbrev pub made_file : Ledger → Date → Answer → Outcome
-made_file l date (Refused number) = record { ledger = l; more = true; text = refused_text number }
-made_file l date (Assessed day) = made_day l date day
+abbrev pub made_file : Ledger → Date → Result Day DayRefusal → Outcome
+made_file l date (Err refusal) = record { state = l; more = true; text = refused_text (day_refusal_number refusal) }
+made_file l date (Ok day) = made_day l date day
 
 abbrev pub made_reinstate : Ledger → Outcome
 made_reinstate l =
-    let r = stepped l reinstate in
-    record { ledger = r.ledger; more = true; text = reinstate_text r.verdict }
+    let r = answered l reinstate in
+    record { state = ledger_after l r; more = true; text = reinstate_text (verdict_of r) }
 
 abbrev pub made_by : Ledger → ℕ → Item → Outcome
 made_by l at unreadable = unread l at
@@ -44,12 +42,5 @@ made_by l at reinstates = made_reinstate l
 
 -- nothing was read at the end of the list; a call that cannot be read ends the run
 unfoldable pub step_of : Ledger → ℕ → List ℕ → Outcome
-step_of l at [] = record { ledger = l; more = false; text = [] }
+step_of l at [] = record { state = l; more = false; text = [] }
 step_of l at (byte ∷ bytes) = made_by l at (item_of (byte ∷ bytes))
-
--- What the code returns and leaves in the buffer that it is lent: the text stands at the front, and the rest is as it was.
-pub record Steps (expected : Outcome) (r : Turn) (before after : List ℕ) : Type 0 where
-  pub ledger : r.ledger ≡ expected.ledger
-  pub more : r.more ≡ expected.more
-  pub size : r.length ≡ length expected.text
-  pub bytes : after ≡ expected.text ++ drop (length expected.text) before

@@ -1,11 +1,11 @@
 -- What is printed for each call: its name, `accepted` and what it comes to, or `refused` and the number in 02.
-use Rattle.std.specs.Prelude.{Bool, cond, List, [], ◌∷◌, ℕ}
+use Rattle.std.specs.Prelude.{Bool, cond, List, [], ◌∷◌, ℕ, Some, None}
 use Rattle.text.specs.Numbers.{ascii, decimal_of, whole_of}
 use Rattle.text.specs.Lines.{line, numbered_of}
 use Rattle.response.specs.declared.Day.{Day}
 use Rattle.response_text.specs.Texts.{flag_text}
-use Rattle.ledger.specs.declared.Verdict.{Verdict}
-use Rattle.ledger.specs.declared.Verdict.TheVariants.{Accept, Refuse}
+use Rattle.ledger.specs.Ledgers.{refusal_number}
+use Rattle.ledger.specs.Calls.{Verdict}
 
 -- "`day accepted D T FLAG UNDER OVER DECLARED` (DECLARED 0 or 1 after the call)", with the flag in words
 abbrev pub accepted_of : Day → List ℕ → Bool → List ℕ
@@ -30,13 +30,13 @@ refused_text number = numbered_of (ascii "day refused") number
 
 -- by what the call answers
 abbrev pub day_text : Day → Bool → Verdict → List ℕ
-day_text day declared Accept = accepted_text day declared
-day_text day declared (Refuse number) = refused_text number
+day_text day declared None = accepted_text day declared
+day_text day declared (Some refusal) = refused_text (refusal_number refusal)
 
 -- "`reinstate accepted` or `reinstate refused 35`"
 abbrev pub reinstate_text : Verdict → List ℕ
-reinstate_text Accept = line (ascii "reinstate accepted" ∷ [])
-reinstate_text (Refuse number) = numbered_of (ascii "reinstate refused") number
+reinstate_text None = line (ascii "reinstate accepted" ∷ [])
+reinstate_text (Some refusal) = numbered_of (ascii "reinstate refused") (refusal_number refusal)
 
 -- a call that cannot be read, at this byte of the file
 abbrev pub error_text : ℕ → List ℕ

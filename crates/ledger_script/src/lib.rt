@@ -5,20 +5,15 @@
 mod texts;
 
 ghost use Rattle.std.specs.Prelude.{◌≡◌, ◌≤◌, length};
+ghost use Rattle.turns.specs.Steps.{Steps};
+ghost use Rattle.response.specs.Answers.{file_answer};
 ghost use Rattle.ledger_script.specs.Items.{date_of, day_item, payload_item};
-ghost use Rattle.ledger_script.specs.Steps.{unread, made_day, made_file, made_reinstate, made_by, step_of, Steps};
+ghost use Rattle.ledger_script.specs.Steps.{unread, made_day, made_file, made_reinstate, made_by, step_of};
 
 use calendar::Date;
 use ledger::Ledger;
-use response::{Answer, Day};
-
-// The next ledger, whether the run goes on, and the text: the first `length` bytes of the buffer that was lent.
-#[derive(Clone, Copy)]
-pub struct Turn {
-    pub ledger: Ledger,
-    pub more: bool,
-    pub length: usize,
-}
+use response::Day;
+use turns::Turn;
 
 // Room for the text of any step.
 pub fn room() -> [u8; 128]
@@ -28,41 +23,29 @@ pub fn room() -> [u8; 128]
 }
 
 // A call that cannot be read, whose tag is at this byte.
-fn unreadable(l: Ledger, at: u64, out: &mut [u8; 128]) -> Turn
-    ensures { Steps (unread l at) result out.old out.new }
+fn unreadable(state: Ledger, at: u64, out: &mut [u8; 128]) -> Turn<Ledger>
+    ensures { Steps (unread state at) result out.old out.new }
 {
-    Turn {
-        ledger: l,
-        more: false,
-        length: text::put_numbered(out, 0, b"script error at byte", at),
-    }
+    Turn::ends(state, texts::put_error(out, at))
 }
 
 // A day that was assessed.
-fn enter(l: Ledger, date: Date, day: Day, out: &mut [u8; 128]) -> Turn
-    ensures { Steps (made_day l date day) result out.old out.new }
+fn enter(state: Ledger, date: Date, day: Day, out: &mut [u8; 128]) -> Turn<Ledger>
+    ensures { Steps (made_day state date day) result out.old out.new }
 {
-    let stepped = ledger::enter(l, date, day);
-    let verdict = stepped.verdict;
-    let ledger = stepped.ledger;
-    Turn {
-        ledger,
-        more: true,
-        length: texts::put_entered(out, day, ledger.declared, verdict),
+    match ledger::enter(state, date, day) {
+        Ok(next) => Turn::continues(next, texts::put_accepted(out, day, next.declared)),
+        Err(refusal) => Turn::continues(state, texts::put_refused(out, refusal.into())),
     }
 }
 
-// A day by the answer of its own assessment.
-fn enter_answer(l: Ledger, date: Date, answer: Answer, out: &mut [u8; 128]) -> Turn
-    ensures { Steps (made_file l date answer) result out.old out.new }
+// A day by the bytes of its file.
+fn enter_file(state: Ledger, date: Date, file: &[u8], out: &mut [u8; 128]) -> Turn<Ledger>
+    ensures { Steps (made_file state date (file_answer file.now)) result out.old out.new }
 {
-    match answer {
-        Answer::Assessed(day) => enter(l, date, day, out),
-        Answer::Refused(number) => Turn {
-            ledger: l,
-            more: true,
-            length: texts::put_refused(out, number),
-        },
+    match response::assess_file(file) {
+        Ok(day) => enter(state, date, day, out),
+        Err(refusal) => Turn::continues(state, texts::put_refused(out, refusal.into())),
     }
 }
 
@@ -77,54 +60,49 @@ fn date_of(payload: &[u8]) -> Date
     }
 }
 
-fn day_call(l: Ledger, at: u64, payload: &[u8], out: &mut [u8; 128]) -> Turn
-    ensures { Steps (made_by l at (day_item payload.now)) result out.old out.new }
+fn day_call(state: Ledger, at: u64, payload: &[u8], out: &mut [u8; 128]) -> Turn<Ledger>
+    ensures { Steps (made_by state at (day_item payload.now)) result out.old out.new }
 {
     if payload.len() < 12 {
-        return unreadable(l, at, out);
+        return unreadable(state, at, out);
     }
-    let date = date_of(payload);
-    enter_answer(l, date, response::assess_file(&payload[12..]), out)
+    enter_file(state, date_of(payload), &payload[12..], out)
 }
 
-fn reinstate(l: Ledger, out: &mut [u8; 128]) -> Turn
-    ensures { Steps (made_reinstate l) result out.old out.new }
+fn reinstate(state: Ledger, out: &mut [u8; 128]) -> Turn<Ledger>
+    ensures { Steps (made_reinstate state) result out.old out.new }
 {
-    let stepped = ledger::reinstate(l);
-    let verdict = stepped.verdict;
-    let ledger = stepped.ledger;
-    Turn {
-        ledger,
-        more: true,
-        length: texts::put_reinstated(out, verdict),
+    match ledger::reinstate(state) {
+        Ok(next) => Turn::continues(next, texts::put_reinstated(out)),
+        Err(refusal) => Turn::continues(state, texts::put_not_reinstated(out, refusal.into())),
     }
 }
 
-fn payload_call(l: Ledger, at: u64, tag: u32, payload: &[u8], out: &mut [u8; 128]) -> Turn
-    ensures { Steps (made_by l at (payload_item tag payload.now)) result out.old out.new }
+fn payload_call(
+    state: Ledger,
+    at: u64,
+    tag: u32,
+    payload: &[u8],
+    out: &mut [u8; 128],
+) -> Turn<Ledger>
+    ensures { Steps (made_by state at (payload_item tag payload.now)) result out.old out.new }
 {
-    if tag == 1 {
-        return day_call(l, at, payload, out);
+    match tag {
+        1 => day_call(state, at, payload, out),
+        2 if payload.is_empty() => reinstate(state, out),
+        _ => unreadable(state, at, out),
     }
-    if (tag == 2) & (payload.len() == 0) {
-        return reinstate(l, out);
-    }
-    unreadable(l, at, out)
 }
 
 // The bytes that were read for a call, whose tag is at byte `at` of the file: none at its end.
-pub fn step(l: Ledger, at: u64, call: &[u8], out: &mut [u8; 128]) -> Turn
-    ensures { Steps (step_of l at call.now) result out.old out.new }
+pub fn step(state: Ledger, at: u64, call: &[u8], out: &mut [u8; 128]) -> Turn<Ledger>
+    ensures { Steps (step_of state at call.now) result out.old out.new }
 {
-    if call.len() == 0 {
-        return Turn {
-            ledger: l,
-            more: false,
-            length: 0,
-        };
+    if call.is_empty() {
+        return Turn::ends(state, 0);
     }
     if frames::is_frame(call) {
-        return payload_call(l, at, wire::word_at(call, 0), &call[8..], out);
+        return payload_call(state, at, wire::word_at(call, 0), &call[8..], out);
     }
-    unreadable(l, at, out)
+    unreadable(state, at, out)
 }

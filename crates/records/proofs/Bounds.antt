@@ -1,27 +1,19 @@
 -- A record's values, and what the tests of a day's bounds give. Assumes nothing.
 use mathlib.Core.Path.{◌≡◌}
-use mathlib.Core.Bool.{Bool, true, ◌&&◌}
+use mathlib.Core.Bool.{true, ◌&&◌}
 use mathlib.Core.List.{List}
-use Prim.Native.Nat.{ℕ, ◌+◌, ◌*◌, ◌≤◌, ◌<◌}
+use Prim.Native.Nat.{ℕ, ◌≤◌, ◌<◌}
 use native.Mathlib.Omega.{arith}
-use borrow.Author.Tests.{leb-true, eqb-true}
-use lib.IntN.{ℤ, nat_abs}
-use lib.ListN.{length}
+use borrow.Author.Tests.{leb-true}
+use lib.IntN.{nat_abs}
 use Rattle.trace.proofs.Sweeps.{every-at}
 use Rattle.trace.proofs.Tests.{and_l, and_r}
 use Rattle.signed.proofs.Sizes.{size-minus}
-use Rattle.wire.specs.Fields.{word_at, whole_at}
 use Rattle.records.specs.Intervals.{interval_at, target_bounded, energy_bounded, interval_bounded, response_of}
-use Rattle.records.specs.Records.{is_whole, day_bounded, records_bounded}
+use Rattle.records.specs.Records.{day_bounded, records_bounded}
 use Rattle.records.specs.declared.Interval.{Interval}
 
 -- ---- one interval
-
-pub read : (records : List ℕ) (i target : ℕ) (baseline metered : ℤ) → target ≡ word_at records (12 * i) → baseline ≡ whole_at records (12 * i + 4)
-    → metered ≡ whole_at records (12 * i + 8)
-    → ◌≡◌ {A = Interval} (record { target = target; baseline = baseline; metered = metered }) (interval_at records i)
-unfolding interval_at
-read records i target baseline metered a b c = rw (a, b, c)
 
 pub record Bounded (v : Interval) : Type 0 where
   pub target : v.target ≤ 2000000
@@ -45,17 +37,7 @@ bounded v e =
           );
     }
 
--- the three tests, one by one
-pub tested : (v : Interval) (target baseline metered : Bool) → target ≡ target_bounded v.target → baseline ≡ energy_bounded v.baseline
-    → metered ≡ energy_bounded v.metered → (target && (baseline && metered)) ≡ interval_bounded v
-unfolding interval_bounded
-tested v target baseline metered a b c = rw (a, b, c)
-
 -- ---- a day
-
--- the bytes of record i
-pub record-in : (records : List ℕ) (i : ℕ) → is_whole records ≡ true → i < 288 → 12 * i + 12 ≤ length records
-record-in records i e l = omega (arith, eqb-true (length records) 3456 e)
 
 pub bounded_at : (earlier : ℕ) (records : List ℕ) → day_bounded earlier records ≡ true → (i : ℕ) → i < 288
     → interval_bounded (interval_at records i) ≡ true

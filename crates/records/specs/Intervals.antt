@@ -1,9 +1,9 @@
 -- One record of a day, which is one trading interval (02, 2026-04; 002, section 3.1): its values, their bounds, its error and its flag.
-use Rattle.std.specs.Prelude.{Bool, true, false, cond, ◌&&◌, ◌||◌, List, ℕ, ◌+◌, ◌*◌, eqb, leb, ℤ, pos, neg_ℤ, nat_abs, ◌-ℤ◌, ◌*ℤ◌}
+use Rattle.std.specs.Prelude.{Bool, true, false, cond, ◌&&◌, ◌||◌, List, ℕ, ◌+◌, ◌*◌, eqb, leb, ℤ, pos, neg_ℤ, nat_abs, ◌-ℤ◌, ◌*ℤ◌, Option, Some, None}
 use Rattle.std.specs.Int.Signed.{le_z}
 use Rattle.wire.specs.Fields.{word_at, whole_at}
 use Rattle.records.specs.declared.Flag.{Flag}
-use Rattle.records.specs.declared.Flag.TheVariants.{None, Under, Over}
+use Rattle.records.specs.declared.Flag.TheVariants.{Under, Over}
 use Rattle.records.specs.declared.Interval.{Interval}
 
 -- "records of 12 bytes: target MWB (u32, kW ..), baseline quantity BSQ and metered energy ME (both i32, Wh ..)"; the first is number 0
@@ -39,24 +39,24 @@ unfoldable pub error_of : Interval → ℤ
 error_of v = pos (1000 * v.target) -ℤ pos 12 *ℤ response_of v
 
 -- "Flag under at 6,000,000 or more, over at −6,000,000 or less"
-unfoldable pub error_flag : ℤ → Flag
-error_flag error = cond (le_z (pos 6000000) error) Under (cond (le_z error (neg_ℤ (pos 6000000))) Over None)
+unfoldable pub error_flag : ℤ → Option Flag
+error_flag error = cond (le_z (pos 6000000) error) (Some Under) (cond (le_z error (neg_ℤ (pos 6000000))) (Some Over) None)
 
 -- "An interval is left out when its own target or the one before it is 0"
 abbrev pub is_left_out : ℕ → Interval → Bool
 is_left_out before v = eqb v.target 0 || eqb before 0
 
-unfoldable pub interval_flag : ℕ → Interval → Flag
+unfoldable pub interval_flag : ℕ → Interval → Option Flag
 interval_flag before v = cond (is_left_out before v) None (error_flag (error_of v))
 
 -- ---- what is counted
 
-abbrev pub is_under : Flag → Bool
+abbrev pub is_under : Option Flag → Bool
 is_under None = false
-is_under Under = true
-is_under Over = false
+is_under (Some Under) = true
+is_under (Some Over) = false
 
-abbrev pub is_over : Flag → Bool
+abbrev pub is_over : Option Flag → Bool
 is_over None = false
-is_over Under = false
-is_over Over = true
+is_over (Some Under) = false
+is_over (Some Over) = true

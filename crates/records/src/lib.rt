@@ -2,29 +2,31 @@
 // the bounds of a day's records.
 #![tactic(auto)]
 
-ghost use Rattle.std.specs.Prelude.{◌≡◌, true, ◌+◌, ◌*◌, ◌^◌, ◌≤◌, ◌<◌, nat_abs, length};
+ghost use Rattle.std.specs.Prelude.{◌≡◌, ◌+◌, ◌*◌, ◌^◌, ◌≤◌, nat_abs, length};
 ghost use Rattle.records.specs.Intervals.{interval_at, target_bounded, energy_bounded, interval_bounded};
 ghost use Rattle.records.specs.Intervals.{response_of, error_of, error_flag, interval_flag, is_under, is_over};
-ghost use Rattle.records.specs.Records.{is_whole, records_bounded, day_bounded};
+ghost use Rattle.records.specs.Records.{records_bounded, day_bounded};
 
-// What is flagged: nothing, underdelivery or overdelivery.
-#[derive(Clone, Copy)]
+// Underdelivery or overdelivery.
+#[derive(Clone, Copy, Debug, PartialEq, Eq, Hash)]
 pub enum Flag {
-    None,
     Under,
     Over,
 }
 
 // One record: dispatch target MWB in kW, baseline settlement quantity BSQ and metered energy ME in Wh.
-#[derive(Clone, Copy)]
+#[derive(Clone, Copy, Debug, PartialEq, Eq, Hash)]
 pub struct Interval {
     pub target: u32,
     pub baseline: i32,
     pub metered: i32,
 }
 
-// How many a day has.
+// How many records a day has.
 pub const INTERVALS: usize = 288;
+
+// The bytes of all of them.
+pub const RECORD_BYTES: usize = 12 * INTERVALS;
 
 #[tactic(auto, unfolding(crate::specs::Intervals::interval_at))]
 pub fn interval_at(records: &[u8], i: usize) -> Interval
@@ -44,28 +46,28 @@ pub fn interval_at(records: &[u8], i: usize) -> Interval
 fn target_bounded(target: u32) -> bool
     ensures { result ≡ target_bounded target }
 {
-    target <= 2000000
+    target <= 2_000_000
 }
 
 fn energy_bounded(energy: i32) -> bool
     ensures { result ≡ energy_bounded energy }
 {
-    signed::size(signed::widened(energy)) <= 200000000
+    energy.unsigned_abs() <= 200_000_000
 }
 
 // ---- error and flag
 
 #[tactic(auto, unfolding(crate::specs::Intervals::error_flag))]
-fn error_flag(error: i64) -> Flag
+fn error_flag(error: i64) -> Option<Flag>
     ensures { result ≡ error_flag error }
 {
-    if error >= 6000000 {
-        return Flag::Under;
+    if error >= 6_000_000 {
+        Some(Flag::Under)
+    } else if error <= -6_000_000 {
+        Some(Flag::Over)
+    } else {
+        None
     }
-    if error <= -6000000 {
-        return Flag::Over;
-    }
-    Flag::None
 }
 
 impl Interval {
@@ -73,7 +75,7 @@ impl Interval {
     fn bounded(self) -> bool
         ensures { result ≡ interval_bounded self }
     {
-        target_bounded(self.target) & (energy_bounded(self.baseline) & energy_bounded(self.metered))
+        target_bounded(self.target) && energy_bounded(self.baseline) && energy_bounded(self.metered)
     }
 
     // BSQ − ME, what was delivered.
@@ -81,10 +83,7 @@ impl Interval {
         ensures value { result ≡ response_of self }
         ensures size { nat_abs result ≤ 2 ^ 32 }
     {
-        signed::minus(
-            signed::widened(self.baseline),
-            signed::widened(self.metered),
-        )
+        i64::from(self.baseline) - i64::from(self.metered)
     }
 
     // In W.
@@ -92,62 +91,37 @@ impl Interval {
     fn error(self) -> i64
         ensures { result ≡ error_of self }
     {
-        let target = signed::times(1000, signed::whole(self.target));
-        signed::minus(target, signed::times(12, self.response()))
+        1000 * i64::from(self.target) - 12 * self.response()
     }
 
     // The flag, after an interval with this target. The first interval of a dispatch is left out: the unit is still ramping.
     #[tactic(auto, unfolding(crate::specs::Intervals::interval_flag))]
-    pub fn flag(self, before: u32) -> Flag
+    pub fn flag(self, before: u32) -> Option<Flag>
         ensures { result ≡ interval_flag before self }
     {
-        if (self.target == 0) | (before == 0) {
-            return Flag::None;
+        if self.target == 0 || before == 0 {
+            return None;
         }
         error_flag(self.error())
     }
 }
 
-impl Flag {
-    pub fn is_under(self) -> bool
-        ensures { result ≡ is_under self }
-    {
-        match self {
-            Flag::None => false,
-            Flag::Under => true,
-            Flag::Over => false,
-        }
-    }
+pub fn is_under(flag: Option<Flag>) -> bool
+    ensures { result ≡ is_under flag }
+{
+    matches!(flag, Some(Flag::Under))
+}
 
-    pub fn is_over(self) -> bool
-        ensures { result ≡ is_over self }
-    {
-        match self {
-            Flag::None => false,
-            Flag::Under => false,
-            Flag::Over => true,
-        }
-    }
+pub fn is_over(flag: Option<Flag>) -> bool
+    ensures { result ≡ is_over flag }
+{
+    matches!(flag, Some(Flag::Over))
 }
 
 // ---- every record
 
-fn records_bounded(records: &[u8]) -> bool
-    requires { is_whole records.now ≡ true }
-    ensures { result ≡ records_bounded records.now 288 }
-{
-    let mut bounded = true;
-    let mut i: usize = 0;
-    while i < INTERVALS {
-        bounded = bounded & interval_at(records, i).bounded();
-        i += 1;
-    }
-    bounded
-}
-
-pub fn day_bounded(earlier: u32, records: &[u8]) -> bool
-    requires { is_whole records.now ≡ true }
+pub fn day_bounded(earlier: u32, records: &[u8; RECORD_BYTES]) -> bool
     ensures { result ≡ day_bounded earlier records.now }
 {
-    target_bounded(earlier) & records_bounded(records)
+    target_bounded(earlier) && (0..INTERVALS).all(|i| interval_at(records, i).bounded())
 }

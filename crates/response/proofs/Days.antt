@@ -9,11 +9,12 @@ use borrow.Author.Tests.{leb-true, le-leb, eq-eqb}
 use lib.Dec.{eqb}
 use lib.IntN.{ℤ, pos, negsuc, nat_abs, ◌+ℤ◌, ◌*ℤ◌}
 use lib.Signed.{le_z}
+use Rattle.std.specs.Prelude.{Some, None}
 use Rattle.trace.proofs.Sums.{added-nothing, sum-zero}
 use Rattle.records.specs.Intervals.{interval_at, response_of, interval_flag, is_under, is_over}
 use Rattle.response.specs.Days.{dispatched_at, target_sum, flag_at, is_half_or_less, is_three_halves_or_more, day_flag, day_of}
 use Rattle.records.specs.Records.{day_bounded}
-use Rattle.records.specs.declared.Flag.TheVariants.{None, Under, Over}
+use Rattle.records.specs.declared.Flag.TheVariants.{Under, Over}
 use Rattle.response.proofs.Flags.{flag-undispatched, flag-under, flag-over}
 use Rattle.response.proofs.Sums.{counted-most, response-most, target-most}
 
@@ -34,17 +35,17 @@ module _ (response : ℤ) (target : ℕ) (dispatched : target ≡ 0 → ⊥) whe
       let h : 3000 * target ≤ 1000 * target = between (pos 24 *ℤ response) (3000 * target) (1000 * target) over under in
       dispatched (omega arith)
 
-  pub over-flagged : is_three_halves_or_more response target ≡ true → day_flag response target ≡ Over
+  pub over-flagged : is_three_halves_or_more response target ≡ true → day_flag response target ≡ Some Over
   over-flagged over = go (is_half_or_less response target) refl
     where
-      go : (t : Bool) → is_half_or_less response target ≡ t → day_flag response target ≡ Over
+      go : (t : Bool) → is_half_or_less response target ≡ t → day_flag response target ≡ Some Over
       go true under = absurd (not-both under over)
       go false more = sym (flag-over response target dispatched more over)
 
-  pub half-flagged : pos 24 *ℤ response ≡ pos (1000 * target) → day_flag response target ≡ Under
+  pub half-flagged : pos 24 *ℤ response ≡ pos (1000 * target) → day_flag response target ≡ Some Under
   half-flagged e = sym (flag-under response target dispatched (rw e (at-most-itself (1000 * target))))
 
-  pub three-halves-flagged : pos 24 *ℤ response ≡ pos (3000 * target) → day_flag response target ≡ Over
+  pub three-halves-flagged : pos 24 *ℤ response ≡ pos (3000 * target) → day_flag response target ≡ Some Over
   three-halves-flagged e = over-flagged (rw e (at-most-itself (3000 * target)))
 
 -- ---- the counts

@@ -9,7 +9,7 @@ use lib.ListN.{length, drop, length-append}
 use lib.Seq.{take_at, drop_at}
 use Rattle.wire.specs.Fields.{number_of, bytes_of, field_at, word_at}
 use Rattle.wire.proofs.Laws.{length-bytes, number-bytes}
-use Rattle.response.specs.Answers.{answer_of, file_refusal, file_answer}
+use Rattle.response.specs.Answers.{answer_of, file_answer}
 
 module _ (earlier : ℕ) (records : List ℕ) (fits : earlier < 2 ^ 32) where
   abbrev file : List ℕ
@@ -28,5 +28,5 @@ module _ (earlier : ℕ) (records : List ℕ) (fits : earlier < 2 ^ 32) where
 
   -- the day that was written is the day that is assessed
   pub file-of : file_answer file ≡ answer_of earlier records
-  unfolding file_answer file_refusal answer_of
+  unfolding file_answer
   file-of = rw (le-ltb (length file) 4 long, first_word, rest)

@@ -1,4 +1,5 @@
 -- What belongs to no one function.
+pub mod Counts
 pub mod Flags
 pub mod Sums
 pub mod Refusals

@@ -7,15 +7,16 @@ use native.Mathlib.Nat.{le_refl}
 use native.Mathlib.Numerals.{add-one}
 use native.Mathlib.Omega.{arith}
 use lib.Dec.{eqb}
-use lib.IntN.{pos, nat_abs, ◌+ℤ◌}
+use lib.IntN.{ℤ, pos, nat_abs, ◌+ℤ◌}
 use Rattle.trace.proofs.Sums.{added_none, added_more, added-size, sum-most, counts-apart}
 use Rattle.signed.proofs.Sizes.{size-plus}
 use Rattle.records.specs.Intervals.{interval_at, interval_flag, response_of, is_under, is_over}
 use Rattle.response.specs.Days.{is_dispatched, dispatched_at, response_sum, target_sum, target_before, flag_at, under_count, over_count}
 use Rattle.records.specs.Records.{day_bounded}
 use Rattle.response.specs.Totals.{SmallTotals, counted, add_dispatched, add_interval, totals_of}
+use Rattle.std.specs.Prelude.{Option, Some, None}
 use Rattle.records.specs.declared.Flag.{Flag}
-use Rattle.records.specs.declared.Flag.TheVariants.{None, Under, Over}
+use Rattle.records.specs.declared.Flag.TheVariants.{Under, Over}
 use Rattle.records.specs.declared.Interval.{Interval}
 use Rattle.response.specs.declared.totals.Totals.{Totals}
 use Rattle.records.proofs.Bounds.{bounded, bounded_at}
@@ -38,10 +39,16 @@ unfolding add_interval add_dispatched interval_flag
 by_one t before v true e = rw e
 by_one t before v false e = rw e
 
-under-not-over : (flag : Flag) → is_under flag ≡ true → is_over flag ≡ false
+under-not-over : (flag : Option Flag) → is_under flag ≡ true → is_over flag ≡ false
 under-not-over None e = refl
-under-not-over Under e = refl
-under-not-over Over e = absurd (false≢true e)
+under-not-over (Some Under) e = refl
+under-not-over (Some Over) e = absurd (false≢true e)
+
+pub all-zero : (response : ℤ) (target under over : ℕ) → response ≡ pos 0 → target ≡ 0 → under ≡ 0 → over ≡ 0
+    → ◌≡◌ {A = Totals}
+    (record { response = response; target = target; under = under; over = over })
+    (record { response = pos 0; target = 0; under = 0; over = 0 })
+all-zero response target under over a b c d = rw (a, b, c, d)
 
 module _ (earlier : ℕ) (records : List ℕ) where
   pub totals-none : record { response = pos 0; target = 0; under = 0; over = 0 } ≡ totals_of earlier records 0

@@ -1,12 +1,12 @@
 -- A day of 288 intervals (02, 2026-04; 002, section 3.2): both sums, the day's flag, and the counts of flagged intervals.
-use Rattle.std.specs.Prelude.{Bool, cond, not, List, ℕ, zero, suc, ◌*◌, eqb, ℤ, pos, ◌*ℤ◌}
+use Rattle.std.specs.Prelude.{Bool, cond, not, List, ℕ, zero, suc, ◌*◌, eqb, ℤ, pos, ◌*ℤ◌, Option, Some, None}
 use Rattle.std.specs.Int.Signed.{le_z}
 use Rattle.trace.specs.Sums.{sum_where, whole_sum_where, count_where}
 use Rattle.records.specs.Intervals.{interval_at, response_of, interval_flag, is_under, is_over}
 use Rattle.records.specs.Records.{intervals}
 use Rattle.records.specs.declared.Interval.{Interval}
 use Rattle.records.specs.declared.Flag.{Flag}
-use Rattle.records.specs.declared.Flag.TheVariants.{None, Under, Over}
+use Rattle.records.specs.declared.Flag.TheVariants.{Under, Over}
 use Rattle.response.specs.declared.Day.{Day}
 
 -- ---- "For the day, over records with a nonzero target, with D the sum of BSQ − ME and T the sum of MWB"
@@ -33,11 +33,11 @@ is_half_or_less response target = le_z (pos 24 *ℤ response) (pos (1000 * targe
 abbrev pub is_three_halves_or_more : ℤ → ℕ → Bool
 is_three_halves_or_more response target = le_z (pos (3000 * target)) (pos 24 *ℤ response)
 
-unfoldable pub day_flag : ℤ → ℕ → Flag
+unfoldable pub day_flag : ℤ → ℕ → Option Flag
 day_flag response target =
     cond (eqb target 0) None
-    (cond (is_half_or_less response target) Under
-    (cond (is_three_halves_or_more response target) Over None))
+    (cond (is_half_or_less response target) (Some Under)
+    (cond (is_three_halves_or_more response target) (Some Over) None))
 
 -- ---- "the counts of under and over intervals"
 
@@ -46,7 +46,7 @@ abbrev pub target_before : ℕ → List ℕ → ℕ → ℕ
 target_before earlier records zero = earlier
 target_before earlier records (suc i) = (interval_at records i).target
 
-abbrev pub flag_at : ℕ → List ℕ → ℕ → Flag
+abbrev pub flag_at : ℕ → List ℕ → ℕ → Option Flag
 flag_at earlier records i = interval_flag (target_before earlier records i) (interval_at records i)
 
 -- of the first k records

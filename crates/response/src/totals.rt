@@ -1,13 +1,13 @@
 // The sums and counts of a day, interval after interval.
-ghost use Rattle.std.specs.Prelude.{◌≡◌, true, ◌^◌, ◌<◌};
+ghost use Rattle.std.specs.Prelude.{◌≡◌, true};
 ghost use Rattle.records.specs.Intervals.{interval_bounded};
-ghost use Rattle.records.specs.Records.{is_whole, day_bounded};
-ghost use Rattle.response.specs.Totals.{SmallTotals, counted, add_dispatched, add_interval, totals_of};
+ghost use Rattle.records.specs.Records.{day_bounded};
+ghost use Rattle.response.specs.Totals.{SmallTotals, add_interval, totals_of};
 
-use records::Interval;
+use records::{Interval, RECORD_BYTES};
 
 // Of the intervals so far: D and T, and how many are flagged.
-#[derive(Clone, Copy)]
+#[derive(Clone, Copy, Debug, Default, PartialEq, Eq, Hash)]
 pub(crate) struct Totals {
     pub response: i64,
     pub target: u32,
@@ -15,61 +15,37 @@ pub(crate) struct Totals {
     pub over: u32,
 }
 
-fn counted(count: u32, more: bool) -> u32
-    requires { count < 2 ^ 31 }
-    ensures { result ≡ counted count more }
-{
-    if more { count + 1 } else { count }
-}
-
 impl Totals {
-    #[tactic(auto, unfolding(crate::specs::Totals::add_dispatched))]
-    fn plus_dispatched(self, before: u32, v: Interval) -> Totals
-        requires small_totals { SmallTotals self }
-        requires v_value { interval_bounded v ≡ true }
-        ensures { result ≡ add_dispatched self before v }
-    {
-        let flag = v.flag(before);
-        Totals {
-            response: signed::plus(self.response, v.response()),
-            target: self.target + v.target,
-            under: counted(self.under, flag.is_under()),
-            over: counted(self.over, flag.is_over()),
-        }
-    }
-
     // An interval with no target is in neither sum and is not flagged.
-    #[tactic(auto, unfolding(crate::specs::Totals::add_interval))]
-    fn plus(self, before: u32, v: Interval) -> Totals
-        requires small_totals { SmallTotals self }
-        requires v_value { interval_bounded v ≡ true }
-        ensures { result ≡ add_interval self before v }
+    #[tactic(auto, unfolding(crate::specs::Totals::add_interval, crate::specs::Totals::add_dispatched))]
+    fn plus(self, before: u32, interval: Interval) -> Totals
+        requires small { SmallTotals self }
+        requires bounded { interval_bounded interval ≡ true }
+        ensures { result ≡ add_interval self before interval }
     {
-        if v.target == 0 {
+        if interval.target == 0 {
             return self;
         }
-        self.plus_dispatched(before, v)
+        let flag = interval.flag(before);
+        Totals {
+            response: self.response + interval.response(),
+            target: self.target + interval.target,
+            under: self.under + u32::from(records::is_under(flag)),
+            over: self.over + u32::from(records::is_over(flag)),
+        }
     }
 }
 
-pub(crate) fn sum_up(earlier: u32, records: &[u8]) -> Totals
-    requires whole { is_whole records.now ≡ true }
-    requires bounded { day_bounded earlier records.now ≡ true }
+pub(crate) fn sum_up(earlier: u32, records: &[u8; RECORD_BYTES]) -> Totals
+    requires { day_bounded earlier records.now ≡ true }
     ensures { result ≡ totals_of earlier records.now 288 }
 {
-    let mut totals = Totals {
-        response: 0,
-        target: 0,
-        under: 0,
-        over: 0,
-    };
+    let mut totals = Totals::default();
     let mut before = earlier;
-    let mut i: usize = 0;
-    while i < records::INTERVALS {
-        let v = records::interval_at(records, i);
-        totals = totals.plus(before, v);
-        before = v.target;
-        i += 1;
+    for i in 0..records::INTERVALS {
+        let interval = records::interval_at(records, i);
+        totals = totals.plus(before, interval);
+        before = interval.target;
     }
     totals
 }

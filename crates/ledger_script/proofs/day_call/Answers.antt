@@ -8,5 +8,4 @@ returns-then-payload-lt12 c = rw (day-short _ c.if-payload-lt12.true) c.unreadab
 pub returns : goal.returns
 returns c =
     let payload = c.args.payload.now in
-    rw (day-read payload c.if-payload-lt12.false, ← c.date_of-date.ensures, ← behind 12 payload, ← c.assess_file.ensures.result)
-    c.enter_answer.ensures
+    rw (day-read payload c.if-payload-lt12.false, ← c.date_of.ensures, ← behind 12 payload) c.enter_file.ensures

@@ -1,10 +1,10 @@
-use Rattle.std.proofs.Common.{refl, ap}
-use Rattle.ledger.specs.declared.Stepped.{Stepped}
-use Rattle.ledger_script.specs.Steps.{made_reinstate}
-use Rattle.ledger_script.proofs.Turns.{turned}
+use Rattle.std.proofs.Common.{sym, ◌∙◌}
+use Rattle.turns.proofs.Turns.{turned}
 use Rattle.ledger_script.proofs.reinstate.Goals as goal
 
-pub returns : goal.returns
-returns c =
-    let e = c.reinstate-stepped.ensures.result in
-    turned (made_reinstate c.args.l) _ _ (ap (λ (s : Stepped). s.ledger) e) refl (rw e at c.put_reinstated.ensures)
+pub returns-in-Ok : goal.returns-in-Ok
+returns-in-Ok c = rw (sym c.reinstate.ensures.result ∙ c.in-Ok.is) (turned _ _ c.continues.ensures c.put_reinstated.ensures)
+
+pub returns-in-Err : goal.returns-in-Err
+returns-in-Err c =
+    rw (sym c.reinstate.ensures.result ∙ c.in-Err.is) (turned _ _ c.continues-in-Err.ensures (rw c.into.ensures at c.put_not_reinstated.ensures))
