@@ -12,17 +12,13 @@ fn tell<R: Eprint>(rt: &R, what: &[u8], error: Error) -> io::Result<()> {
     }
 }
 
-// Writes the first `length` bytes of `text` in one write, and says whether that went well. A write that fails is told in a line on
-// standard error that begins with `what`.
-pub fn write<R: Print + Eprint>(rt: &R, what: &[u8], text: &[u8], length: usize) -> bool {
-    if text.len() < length {
+// Writes `text` in one write, and says whether that went well. A write that fails is told in a line on standard error that begins with
+// `what`.
+pub fn write<R: Print + Eprint>(rt: &R, what: &[u8], text: &[u8]) -> bool {
+    let written = io::writer(rt).write_all(text);
+    if let Err(error) = written {
+        let _told = tell(rt, what, error);
         return false;
     }
-    match io::writer(rt).write_all(&text[0..length]) {
-        Ok(()) => true,
-        Err(error) => {
-            let _told = tell(rt, what, error);
-            false
-        }
-    }
+    true
 }

@@ -6,70 +6,19 @@
 // what a file holds. A file that cannot be opened counts as empty.
 #![tactic(auto)]
 
-ghost use Rattle.std.specs.Prelude.{◌≤◌, ◌≡◌, length};
-
-use ledger::Ledger;
-use std::fs;
-use std::io::{Eprint, Print, Read};
-use std::rt::Files;
-
-// Whether the run goes on, the next ledger, and the bytes that the call took.
-#[derive(Clone, Copy)]
-struct Run {
-    more: bool,
-    ledger: Ledger,
-    taken: usize,
-}
-
-// Reads one call, whose tag is at this byte, and writes its answer, before the next is read.
-fn take_one<R: Print + Eprint, F: Read>(
-    rt: &R,
-    file: &mut F,
-    l: Ledger,
-    at: u64,
-    call: &mut [u8],
-    out: &mut [u8; 128],
-) -> Run
-    requires { length call.old ≡ 8200 }
-    ensures { result.taken ≤ 8200 }
-{
-    let taken = input::read_call(file, call);
-    let turn = ledger_script::step(l, at, &call[0..taken], out);
-    let written = output::write(rt, b"response_ledger: standard output", out, turn.length);
-    Run {
-        more: turn.more && written,
-        ledger: turn.ledger,
-        taken,
-    }
-}
-
-// Call after call, until the list ends. A proved loop has to end, and nothing says that a file does, so the calls are
-// counted down, from a million million, which no run uses up.
-fn take_all<R: Print + Eprint, F: Read>(rt: &R, file: &mut F, call: &mut [u8], out: &mut [u8; 128])
-    requires { length call.old ≡ 8200 }
-{
-    let mut l = ledger::new_ledger();
-    let mut at: u64 = 0;
-    let mut calls: u64 = 1000000000000;
-    while 0 < calls {
-        let next = take_one(rt, file, l, at, call, out);
-        if !next.more {
-            return;
-        }
-        l = next.ledger;
-        at += next.taken as u64;
-        calls -= 1;
-    }
-}
-
-fn run_calls<R: Files + Print + Eprint>(rt: &R) {
-    if let Ok(mut file) = fs::open(rt, "ledger.bin") {
-        let mut call = frames::room();
-        let mut out = ledger_script::room();
-        take_all(rt, &mut file, &mut call, &mut out);
-    }
-}
+use runs::Calls;
+use std::fs::File;
 
 fn main(rt: HostRuntime) {
-    run_calls(&rt);
+    if let Ok(file) = File::open(&rt, "ledger.bin") {
+        let what = b"response_ledger: standard output";
+        runs::run(
+            &rt,
+            what,
+            Calls(file),
+            ledger::new_ledger(),
+            ledger_script::room(),
+            ledger_script::step,
+        );
+    }
 }

@@ -1,173 +1,97 @@
 // Reads units and aggregates as `tools/trial_marks.py` writes them and prints what `marks` makes of each.
 #![tactic(auto)]
 
-ghost use Rattle.std.specs.Prelude.{◌+◌, ◌*◌, ◌<◌, ◌≤◌, length};
+ghost use Rattle.std.specs.Prelude.{◌≡◌, ◌*◌, ◌<◌, ◌≤◌, length};
 ghost use Rattle.marks.specs.Bounds.{SmallSight};
 ghost use Rattle.aggregates.specs.Sizes.{SmallSums};
-ghost use Rattle.aggregates.specs.Views.{SmallView};
+ghost use Rattle.aggregates.specs.Views.{view_of};
 
 use aggregates::{Sums, View};
 use marks::{Assessment, Mark, Sight};
-use std::io::{Eprint, Print};
-use telemetry::Line;
+use std::io;
+use std::io::Print;
 
-fn put_mark(out: &mut [u8], at: usize, mark: Mark) -> usize {
+fn name_of(mark: Mark) -> &'static str {
     match mark {
-        Mark::Off => text::put_bytes(out, at, b"OFF"),
-        Mark::Blank => text::put_bytes(out, at, b"BLANK"),
-        Mark::Clear => text::put_bytes(out, at, b"CLEAR"),
-        Mark::Doubt => text::put_bytes(out, at, b"DOUBT"),
-        Mark::Small => text::put_bytes(out, at, b"SMALL"),
-        Mark::Large => text::put_bytes(out, at, b"LARGE"),
+        Mark::Off => "OFF",
+        Mark::Blank => "BLANK",
+        Mark::Clear => "CLEAR",
+        Mark::Doubt => "DOUBT",
+        Mark::Small => "SMALL",
+        Mark::Large => "LARGE",
     }
 }
 
-// A space and a signed number.
-fn put_whole(out: &mut [u8], at: usize, z: i32) -> usize {
-    let next = text::put_bytes(out, at, b" ");
-    text::put_whole(out, next, z)
-}
-
-fn put_assessment(out: &mut [u8], at: usize, a: Assessment) -> usize {
-    let mark = a.mark;
-    let mut next = put_mark(out, at, mark);
-    next = put_whole(out, next, a.error);
-    next = text::put_bytes(out, next, b" ");
-    next = text::put_number(out, next, a.trigger as u64);
-    put_whole(out, next, a.level)
-}
-
-fn print_case<R: Print + Eprint>(rt: &R, label: &[u8], assessment: Assessment) {
-    let mut out = io::buffer();
-    let mut next = text::put_bytes(&mut out, 0, label);
-    next = text::put_bytes(&mut out, next, b": ");
-    next = put_assessment(&mut out, next, assessment);
-    next = text::put_bytes(&mut out, next, b"\n");
-    output::write(rt, b"trial_marks: standard output", &out, next);
-}
-
-// A unit at this interval's line, and at the one before it where that is kept.
-fn sight_of(kind: u8, chained: bool, line: &[u8], is_kept: bool, before: &[u8]) -> Sight
+// A unit: its kind, 1 where a line is kept, this interval's line and the one before it. No bytes are an unreadable line, of which nothing
+// is kept.
+#[tactic(auto, using(marks::proofs::Small::line_small, marks::proofs::Small::kept_small))]
+fn sight_of(unit: &[u8; 82], chained: bool) -> Sight
     ensures { SmallSight result }
 {
-    let line = telemetry::read_line(kind, chained, line);
-    let kept = if is_kept {
-        marks::kept_from(telemetry::read_line(kind, chained, before))
-    } else {
-        marks::nothing_kept()
-    };
-    Sight { kind, line, kept }
-}
-
-// The unit that starts at `at`: its kind, 1 where a line is kept, this interval's line and the one before it.
-fn sight_at(units: &[u8], at: usize, chained: bool) -> Sight
-    requires { at + 82 ≤ length units.now }
-    ensures { SmallSight result }
-{
-    let line = at + 2;
-    let before = at + 42;
-    let end = at + 82;
-    sight_of(
-        units[at],
-        chained,
-        &units[line..before],
-        units[at + 1] == 1,
-        &units[before..end],
-    )
+    let kind = kinds::kind_of(unit[0]);
+    let line = telemetry::read_line(kind, chained, &unit[2..42]);
+    let before: &[u8] = if unit[1] == 1 { &unit[42..] } else { &[] };
+    Sight {
+        kind,
+        line,
+        kept: marks::kept_from(telemetry::read_line(kind, chained, before)),
+    }
 }
 
 // A unit as the sums of its aggregate take it.
-fn view_of(unit: Sight) -> View
-    requires { SmallSight unit }
-    ensures { SmallView result }
+#[tactic(auto, unfolding(aggregates::specs::Views::view_of, aggregates::specs::Views::line_view))]
+fn view_of(unit: Sight) -> Option<View>
+    ensures { result ≡ view_of unit }
 {
-    let line = unit.line;
-    let kept = unit.kept;
-    match line {
-        Line::Readable(f) => aggregates::view_of(unit.kind, f, kept, marks::measure(f)),
-        Line::Unreadable => aggregates::unreadable_view(unit.kind),
-    }
+    let line = marks::measure(unit.line?);
+    Some(aggregates::view_of(unit.kind, line, unit.kept))
 }
 
-// The sums over `count` members, first to last; where fewer are given, they come round again.
-fn sums_of(units: &[u8], given: usize, count: usize) -> Sums
-    requires { (82 * given ≤ length units.now) × (0 < given) × (count ≤ 64) }
+// The sums over `count` members, first to last; where fewer units are given, they come round again.
+fn sums_of(units: &[[u8; 82]], count: usize) -> Sums
+    requires { (0 < length units.now) × (count ≤ 64) }
     ensures { SmallSums (2000000 * count) result }
 {
-    let mut sums = Sums::none();
-    let mut i = 0;
-    while i < count {
-        let member = view_of(sight_at(units, 82 * (i % given), true));
-        sums = sums.plus(member);
-        i += 1;
+    let mut sums = Sums::default();
+    for i in 0..count {
+        let unit = sight_of(&units[i % units.len()], true);
+        sums = sums.plus(view_of(unit));
     }
     sums
 }
 
 // A unit in no chain (0), a unit in a chain (1) or an aggregate.
-fn assess(form: u8, units: &[u8], given: usize, count: usize) -> Assessment
-    requires { (82 * given ≤ length units.now) × (0 < given) × (count ≤ 64) }
+fn assess(form: u8, units: &[[u8; 82]], count: usize) -> Assessment
+    requires { (0 < length units.now) × (count ≤ 64) }
 {
+    let chained = form > 0;
     if form < 2 {
-        let chained = form == 1;
-        return marks::assess_unit(chained, sight_at(units, 0, chained));
-    }
-    sums_of(units, given, count).assess()
-}
-
-fn size(b: u8) -> usize
-    ensures { result < 256 }
-{
-    b as usize
-}
-
-// The case that starts at `at`, and where the next one starts: a label with its length before it, its form, how many units it
-// has, and how many are given, which follow.
-fn one<R: Print + Eprint>(rt: &R, cases: &[u8], at: usize) -> usize
-    requires { at < length cases.now }
-    ensures { at < result }
-{
-    let label = at + 1;
-    let form = label + size(cases[at]);
-    let units = form + 3;
-    if cases.len() < units {
-        return cases.len();
-    }
-    let count = size(cases[form + 1]);
-    let given = size(cases[form + 2]);
-    let end = units + 82 * given;
-    if cases.len() < end {
-        return cases.len();
-    }
-    if given < 1 {
-        return cases.len();
-    }
-    if count > 64 {
-        return cases.len();
-    }
-    let assessment = assess(cases[form], &cases[units..end], given, count);
-    print_case(rt, &cases[label..form], assessment);
-    end
-}
-
-fn all<R: Print + Eprint>(rt: &R, cases: &[u8]) {
-    let mut at = 0;
-    while at < cases.len() {
-        at = one(rt, cases, at);
+        marks::assess_unit(chained, sight_of(&units[0], chained))
+    } else {
+        sums_of(units, count).assess()
     }
 }
 
-// The cases of a block of standard input. No case stands in two; zeros fill a block that another follows.
-fn block<R: Print + Eprint>(rt: &R) {
-    let mut buffer = io::large_buffer();
-    let n = io::read_full(0, &mut buffer);
-    all(rt, &buffer[..n]);
+// A case is a label, its form, the number of its units, and how many units are given, which follow.
+fn run_case<R: Print>(rt: &R, cases: &mut &[u8]) -> Option<io::Result<()>> {
+    let label = trials::label(cases)?;
+    let form = cases.split_off_first()?;
+    let count = usize::from(*cases.split_off_first()?);
+    let given = usize::from(*cases.split_off_first()?);
+    let units = cases.split_off(..82 * given)?.as_chunks::<82>().0;
+    if units.is_empty() || count > 64 {
+        return None;
+    }
+    let a = assess(*form, units, count);
+    Some(println!(rt;
+        "{label}: {} {} {} {}",
+        name_of(a.mark),
+        a.error,
+        a.trigger,
+        a.level
+    ))
 }
 
-fn main(rt: HostRuntime) {
-    let mut blocks: u8 = 0;
-    while blocks < 4 {
-        block(&rt);
-        blocks += 1;
-    }
+fn main(rt: HostRuntime) -> io::Result<()> {
+    trials::run(&mut rt.stdin(), |cases| run_case(&rt, cases))
 }

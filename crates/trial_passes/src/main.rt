@@ -1,249 +1,101 @@
 // Reads registers and units' lines as `tools/trial_passes.py` writes them and prints what a pass over each aggregate's members gives.
 #![tactic(auto)]
 
-ghost use Rattle.std.specs.Prelude.{◌+◌, ◌*◌, ◌<◌, ◌≤◌, ◌≡◌, true, length};
-ghost use Rattle.plants.specs.Rosters.{roster_sound};
-ghost use Rattle.aggregates.specs.Views.{SmallView};
-ghost use Rattle.passes.specs.Seen.{Seen};
+ghost use Rattle.std.specs.Prelude.{◌≡◌, ℕ, ◌<◌, length, get_or, IfSome, None};
+ghost use Rattle.marks.specs.Bounds.{SmallSight};
+ghost use Rattle.aggregates.specs.Views.{view_of, SmallView};
 
 use aggregates::View;
+use kinds::Kind;
+use marks::Sight;
 use passes::Pass;
 use plants::Roster;
-use register::Answer;
-use std::io::{Eprint, Print};
-use telemetry::Line;
+use std::io::Print;
+use std::{array, io};
 
-fn size(b: u8) -> usize
-    ensures { result < 256 }
+// A unit by a sample: 1 where a line is kept, this interval's line and the one before it. No bytes are an unreadable line, of which nothing
+// is kept.
+#[tactic(auto, using(marks::proofs::Small::line_small, marks::proofs::Small::kept_small))]
+fn sight_of(sample: &[u8; 81], kind: Option<Kind>, chained: bool) -> Sight
+    ensures { SmallSight result }
 {
-    b as usize
-}
-
-// ---- what is seen of the units
-
-fn view_of(kind: u8, chained: bool, line: &[u8], before: &[u8]) -> View
-    ensures { SmallView result }
-{
-    let line = telemetry::read_line(kind, chained, line);
-    let kept = marks::kept_from(telemetry::read_line(kind, chained, before));
-    match line {
-        Line::Readable(f) => aggregates::view_of(kind, f, kept, marks::measure(f)),
-        Line::Unreadable => aggregates::unreadable_view(kind),
+    let line = telemetry::read_line(kind, chained, &sample[1..41]);
+    let before: &[u8] = if sample[0] == 1 { &sample[41..] } else { &[] };
+    Sight {
+        kind,
+        line,
+        kept: marks::kept_from(telemetry::read_line(kind, chained, before)),
     }
 }
 
-// Where the line before ends. Where none is kept it has no bytes, which is an unreadable line, so that nothing is.
-fn line_end(before: usize, is_kept: bool) -> usize
-    requires { before < 65536 }
-    ensures { (before ≤ result) × (result ≤ before + 40) }
+// A unit as a pass takes it.
+#[tactic(auto, unfolding(aggregates::specs::Views::view_of, aggregates::specs::Views::line_view))]
+fn view_of(unit: Sight) -> Option<View>
+    ensures { result ≡ view_of unit }
 {
-    if is_kept { before + 40 } else { before }
+    let line = marks::measure(unit.line?);
+    Some(aggregates::view_of(unit.kind, line, unit.kept))
 }
 
-// The sample at place n, of which each has 81 bytes: 1 where a line is kept, this interval's line and the one before it.
-fn view_at(samples: &[u8], n: usize, kind: u8, chained: bool) -> View
-    requires { (n < 256) × (81 * n + 81 ≤ length samples.now) }
-    ensures { SmallView result }
+// What is seen of the units. A unit's pick says which sample it has. Picks come round again, and so do samples.
+fn views(roster: &Roster, samples: &[[u8; 81]], picks: &[u8]) -> [Option<View>; 64]
+    requires { (0 < length samples.now) × (0 < length picks.now) }
+    ensures { (i : ℕ) → i < 64 → IfSome (get_or result i None) (λ view. SmallView view) }
 {
-    let at = 81 * n;
-    let from = at + 1;
-    let before = at + 41;
-    let end = line_end(before, samples[at] == 1);
-    view_of(kind, chained, &samples[from..before], &samples[before..end])
-}
-
-// Which of the given samples the unit at place i has. Picks come round again, and so do samples.
-fn picked(picks: &[u8], i: usize, given: usize) -> usize
-    requires { (1 ≤ length picks.now) × (1 ≤ given) }
-    ensures { result < given }
-{
-    size(picks[i % picks.len()]) % given
-}
-
-#[tactic(auto, unfolding(passes::specs::Seen::seen_at))]
-fn views(roster: Roster, samples: &[u8], given: usize, picks: &[u8]) -> [View; 64]
-    requires roster_value { roster_sound roster ≡ true }
-    requires given_in_bounds { (81 * given ≤ length samples.now) × (1 ≤ given) × (given < 256) × (1 ≤ length picks.now) }
-    ensures { Seen roster result }
-{
-    let units = roster.units;
-    let mut seen = [aggregates::no_view(); 64];
-    let mut i = 0;
-    while i < units {
-        let n = picked(picks, i, given);
-        seen[i] = view_at(samples, n, roster.kinds[i], roster.chained[i]);
-        i += 1;
-    }
-    seen
-}
-
-// ---- what is printed of a case
-
-fn print_refused<R: Print + Eprint>(rt: &R, label: &[u8], number: u32) {
-    let mut out = io::buffer();
-    let mut next = text::put_bytes(&mut out, 0, label);
-    next = text::put_numbered(&mut out, next, b": refused", number as u64);
-    output::write(rt, b"trial_passes: standard output", &out, next);
-}
-
-// A space and a number.
-fn put_number(out: &mut [u8], at: usize, n: u64) -> usize {
-    let next = text::put_bytes(out, at, b" ");
-    text::put_number(out, next, n)
-}
-
-// A space and a signed number.
-fn put_whole(out: &mut [u8], at: usize, z: i32) -> usize {
-    let next = text::put_bytes(out, at, b" ");
-    text::put_whole(out, next, z)
+    array::from_fn(|i| {
+        let pick = usize::from(picks[i % picks.len()]);
+        let sample = &samples[pick % samples.len()];
+        view_of(sight_of(sample, roster.kinds[i], roster.chained[i]))
+    })
 }
 
 // The aggregate's number, its mark as the report has it, error, trigger and level, and how many members were looked at.
-fn print_pass<R: Print + Eprint>(rt: &R, label: &[u8], aggregate: usize, pass: Pass) {
-    let found = pass.assessment;
-    let mark = found.mark;
-    let mut out = io::buffer();
-    let mut next = text::put_bytes(&mut out, 0, label);
-    next = text::put_bytes(&mut out, next, b":");
-    next = put_number(&mut out, next, aggregate as u64);
-    next = put_number(&mut out, next, marks::mark_number(mark) as u64);
-    next = put_whole(&mut out, next, found.error);
-    next = put_number(&mut out, next, found.trigger as u64);
-    next = put_whole(&mut out, next, found.level);
-    next = text::put_numbered(&mut out, next, b"", pass.looked as u64);
-    output::write(rt, b"trial_passes: standard output", &out, next);
-}
-
-fn print_passes<R: Print + Eprint>(rt: &R, label: &[u8], passes: [Pass; 16], aggregates: usize)
-    requires { aggregates ≤ 16 }
-{
-    let mut j = 0;
-    while j < aggregates {
-        print_pass(rt, label, j + 1, passes[j]);
-        j += 1;
-    }
-}
-
-fn print_roster<R: Print + Eprint>(
-    rt: &R,
-    label: &[u8],
-    roster: Roster,
-    samples: &[u8],
-    given: usize,
-    picks: &[u8],
-)
-    requires roster_value { roster_sound roster ≡ true }
-    requires given_in_bounds { (81 * given ≤ length samples.now) × (1 ≤ given) × (given < 256) × (1 ≤ length picks.now) }
-{
-    let passes = passes::assess_aggregates(roster, views(roster, samples, given, picks));
-    print_passes(rt, label, passes, roster.aggregates);
-}
-
-// An accepted roster is sound; the test of it here stands for a proof.
-fn print_case<R: Print + Eprint>(
-    rt: &R,
-    label: &[u8],
-    bytes: &[u8],
-    samples: &[u8],
-    given: usize,
-    picks: &[u8],
-)
-    requires { (81 * given ≤ length samples.now) × (1 ≤ given) × (given < 256) × (1 ≤ length picks.now) }
-{
-    let registered = register::read_register(bytes);
-    let answer = registered.answer;
-    let roster = registered.roster;
-    match answer {
-        Answer::Accepted(_) => {
-            if plants::roster_sound(roster) {
-                print_roster(rt, label, roster, samples, given, picks);
-            }
-        }
-        Answer::Refused(number) => print_refused(rt, label, number),
-    }
-}
-
-// ---- cases
-
-// Runs a case from what stands behind its register, samples with their number and picks with theirs, and answers how many bytes they
-// have.
-fn run_units<R: Print + Eprint>(rt: &R, label: &[u8], bytes: &[u8], rest: &[u8]) -> usize
-    requires { 1 ≤ length rest.now }
-    ensures { result ≤ length rest.now }
-{
-    let given = size(rest[0]);
-    let sampled = 1 + 81 * given;
-    let picks = sampled + 1;
-    if rest.len() < picks {
-        return rest.len();
-    }
-    let count = size(rest[sampled]);
-    let end = picks + count;
-    if rest.len() < end {
-        return rest.len();
-    }
-    if given < 1 {
-        return rest.len();
-    }
-    if count < 1 {
-        return rest.len();
-    }
-    print_case(
-        rt,
-        label,
-        bytes,
-        &rest[1..sampled],
-        given,
-        &rest[picks..end],
-    );
-    end
-}
-
-// Runs the case at `at`, and answers where the next one starts. A case is a label with its length before it, a register with its
-// length in two bytes, the low one first, and what `run_units` reads. No label is empty: a zero ends the cases of a block.
-fn run_case<R: Print + Eprint>(rt: &R, cases: &[u8], at: usize) -> usize
-    requires { at < length cases.now }
-    ensures { at < result }
-{
-    let label = at + 1;
-    let from = label + size(cases[at]);
-    if from == label {
-        return cases.len();
-    }
-    let register = from + 2;
-    if cases.len() < register {
-        return cases.len();
-    }
-    let end = register + size(cases[from]) + 256 * size(cases[from + 1]);
-    if cases.len() <= end {
-        return cases.len();
-    }
-    end + run_units(
-        rt,
-        &cases[label..from],
-        &cases[register..end],
-        &cases[end..],
+fn print_pass<R: Print>(rt: &R, label: &str, aggregate: usize, pass: &Pass) -> io::Result<()> {
+    let a = pass.assessment;
+    println!(rt;
+        "{label}: {aggregate} {} {} {} {} {}",
+        u8::from(a.mark),
+        a.error,
+        a.trigger,
+        a.level,
+        pass.looked
     )
 }
 
-fn run_cases<R: Print + Eprint>(rt: &R, cases: &[u8]) {
-    let mut at = 0;
-    while at < cases.len() {
-        at = run_case(rt, cases, at);
+fn print_case<R: Print>(
+    rt: &R,
+    label: &str,
+    bytes: &[u8],
+    samples: &[[u8; 81]],
+    picks: &[u8],
+) -> io::Result<()>
+    requires { (0 < length samples.now) × (0 < length picks.now) }
+{
+    let roster = match register::read_register(bytes) {
+        Ok(registered) => registered.roster,
+        Err(refusal) => return println!(rt; "{label}: refused {}", u32::from(refusal)),
+    };
+    let passes = passes::assess_aggregates(&roster, &views(&roster, samples, picks));
+    for (aggregate, pass) in (1..=roster.aggregates).zip(&passes) {
+        print_pass(rt, label, aggregate, pass)?;
     }
+    Ok(())
 }
 
-// The cases of a block of standard input. No case stands in two; zeros fill a block that another follows.
-fn run_block<R: Print + Eprint>(rt: &R) {
-    let mut buffer = io::large_buffer();
-    let n = io::read_full(0, &mut buffer);
-    run_cases(rt, &buffer[..n]);
+// A case is a label, a register, samples with their number before them, and picks with theirs. No label is empty: a zero ends the cases of a
+// block.
+fn run_case<R: Print>(rt: &R, cases: &mut &[u8]) -> Option<io::Result<()>> {
+    let label = trials::label(cases)?;
+    let register = trials::long_sized(cases)?;
+    let given = usize::from(*cases.split_off_first()?);
+    let samples = cases.split_off(..81 * given)?.as_chunks::<81>().0;
+    let picks = trials::sized(cases)?;
+    if label.is_empty() || samples.is_empty() || picks.is_empty() {
+        return None;
+    }
+    Some(print_case(rt, label, register, samples, picks))
 }
 
-fn main(rt: HostRuntime) {
-    let mut blocks: u8 = 0;
-    while blocks < 4 {
-        run_block(&rt);
-        blocks += 1;
-    }
+fn main(rt: HostRuntime) -> io::Result<()> {
+    trials::run(&mut rt.stdin(), |cases| run_case(&rt, cases))
 }

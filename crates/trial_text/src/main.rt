@@ -1,80 +1,65 @@
 // Prints numbers through `text`, and what is left of short buffers. Every expected line is worked out by hand.
 #![tactic(auto)]
 
-use std::io::{Eprint, Print};
+use std::io;
+use std::io::{Print, Write};
+use text::Field;
 
-fn print_line<R: Print + Eprint>(rt: &R, out: &mut [u8], next: usize) {
-    let end = text::put_bytes(out, next, b"\n");
-    output::write(rt, b"trial_text: standard output", out, end);
+fn print_line<R: Print>(rt: &R, bytes: &[u8]) -> io::Result<()> {
+    io::writer(rt).write_all(bytes)?;
+    println!(rt)
 }
 
-fn number<R: Print + Eprint>(rt: &R, n: u64) {
-    let mut out = io::buffer();
-    let next = text::put_number(&mut out, 0, n);
-    print_line(rt, &mut out, next);
-}
-
-fn whole<R: Print + Eprint>(rt: &R, z: i32) {
-    let mut out = io::buffer();
-    let next = text::put_whole(&mut out, 0, z);
-    print_line(rt, &mut out, next);
+fn print_field<R: Print>(rt: &R, field: Field) -> io::Result<()> {
+    let mut out = [0; 32];
+    let next = text::put(&mut out, 0, field);
+    print_line(rt, out.get(..next).unwrap_or(&[]))
 }
 
 // The next place, and the bytes of the buffer.
-fn print_buffer<R: Print + Eprint>(rt: &R, next: usize, bytes: &[u8]) {
-    let mut out = io::buffer();
-    let mut end = text::put_number(&mut out, 0, next as u64);
-    end = text::put_bytes(&mut out, end, b" ");
-    end = text::put_bytes(&mut out, end, bytes);
-    print_line(rt, &mut out, end);
+fn print_buffer<R: Print>(rt: &R, next: usize, bytes: &[u8]) -> io::Result<()> {
+    print!(rt; "{next} ")?;
+    print_line(rt, bytes)
 }
 
 // A signed number takes at most 11 bytes, so it is put into 12 from place 0 or 1 alone.
-fn whole_at<R: Print + Eprint>(rt: &R, at: usize) {
+fn whole_at<R: Print>(rt: &R, at: usize) -> io::Result<()> {
     let mut bytes = [b'.'; 12];
-    let next = text::put_whole(&mut bytes, at, -128000000);
-    print_buffer(rt, next, &bytes);
+    let next = text::put(&mut bytes, at, Field::I32(-128000000));
+    print_buffer(rt, next, &bytes)
 }
 
 // Words, a space, at most 20 digits and the end of the line: 29 bytes with these words, of which 30 are lent.
-fn refused_at<R: Print + Eprint>(rt: &R, at: usize) {
+fn refused_at<R: Print>(rt: &R, at: usize) -> io::Result<()> {
     let mut bytes = [b'.'; 30];
-    let next = text::put_numbered(&mut bytes, at, b"refused", 8);
-    print_buffer(rt, next, &bytes);
+    let next = text::put_line(&mut bytes, at, &[Field::Words(b"refused"), Field::U64(8)]);
+    print_buffer(rt, next, &bytes)
 }
 
 // A record takes at most 83 bytes of text: one line fits into 83, and two do not.
-fn report_of<R: Print + Eprint>(rt: &R, report: &[u8]) {
+fn report_of<R: Print>(rt: &R, report: &[u8]) -> io::Result<()> {
     let mut bytes = [b'.'; 83];
     let next = text::put_report(&mut bytes, 0, 10, report);
-    print_buffer(rt, next, &bytes);
+    print_buffer(rt, next, &bytes)
 }
 
-fn main(rt: HostRuntime) {
-    number(&rt, 0);
-    number(&rt, 9);
-    number(&rt, 10);
-    number(&rt, 99);
-    number(&rt, 100);
-    number(&rt, 4294967295);
-    number(&rt, 18446744073709551615);
-    whole(&rt, 0);
-    whole(&rt, 7);
-    whole(&rt, -1);
-    whole(&rt, 2147483647);
-    whole(&rt, -2147483648);
-    whole_at(&rt, 0);
-    whole_at(&rt, 1);
-    whole_at(&rt, 2);
-    whole_at(&rt, 13);
-    whole_at(&rt, 18446744073709551615);
-    refused_at(&rt, 0);
-    refused_at(&rt, 1);
-    refused_at(&rt, 2);
+fn main(rt: HostRuntime) -> io::Result<()> {
+    for n in [0, 9, 10, 99, 100, 4294967295, 18446744073709551615] {
+        print_field(&rt, Field::U64(n))?;
+    }
+    for z in [0, 7, -1, 2147483647, -2147483648] {
+        print_field(&rt, Field::I32(z))?;
+    }
+    for at in [0, 1, 2, 13, usize::MAX] {
+        whole_at(&rt, at)?;
+    }
+    for at in 0..3 {
+        refused_at(&rt, at)?;
+    }
     let record = [
         4, 5, 0, 0, 0xa9, 0xe4, 0xff, 0xff, 0xc0, 0x27, 0x09, 0, 0xc8, 0x6b, 0x01, 0,
     ];
-    report_of(&rt, &record);
-    report_of(&rt, &[0; 32]);
-    report_of(&rt, &[0; 15]);
+    report_of(&rt, &record)?;
+    report_of(&rt, &[0; 32])?;
+    report_of(&rt, &[0; 15])
 }

@@ -1,7 +1,7 @@
-use Rattle.std.proofs.Common.{arith}
-use Rattle.plants.proofs.Soundness.{sound-units}
-use Rattle.trial_passes.proofs.Small.{views-none}
+use Rattle.std.proofs.Common.{rules}
+use Rattle.std.specs.Prelude.{None}
+use Rattle.aggregates.proofs.Small.{view-small}
 use Rattle.trial_passes.proofs.views.Goals as goal
 
-pub loop-i-init : goal.loop-i-init
-loop-i-init c = (omega arith, sound-units _ c.requires.roster_value, views-none c.no_view-seen.ensures)
+pub returns : goal.returns
+returns c = λ i l. let called = c.from_fn.ensures.items.at i None l in search (rules, view-small)
