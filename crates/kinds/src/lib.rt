@@ -2,7 +2,7 @@
 #![tactic(auto)]
 
 ghost use Rattle.std.specs.Prelude.{◌≡◌};
-ghost use Rattle.kinds.specs.Kinds.{kind_of, Decodes, kind_number};
+ghost use Rattle.kinds.specs.Kinds.{kind_of, Decodes, kind_number, is_semi_scheduled};
 
 // The rules' kinds 1, 2, 3 and 4.
 #[derive(Clone, Copy, Debug, PartialEq, Eq, Hash)]
@@ -48,9 +48,16 @@ impl From<Kind> for u8 {
     }
 }
 
-// The kind with a number, if it is listed.
+// The kind with a number, if it is listed. Beside `try_from`, since its callers want an `Option`: each keeps an unlisted number as no kind.
 pub fn kind_of(number: u8) -> Option<Kind>
     ensures { result ≡ kind_of number }
 {
     Kind::try_from(number).ok()
+}
+
+// Whether a unit is of kind 4.
+pub fn is_semi_scheduled(kind: Option<Kind>) -> bool
+    ensures { result ≡ is_semi_scheduled kind }
+{
+    matches!(kind, Some(Kind::SemiScheduled))
 }

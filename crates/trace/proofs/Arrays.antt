@@ -4,7 +4,7 @@ use Rattle.std.proofs.lemmas.List.{ext_get_or, length-replicate}
 use Rattle.std.specs.Array.{IsFromFnResult, IsFromFnResultFrom}
 use Rattle.trace.specs.Sweeps.{sweep}
 use Rattle.trace.specs.Lists.{below}
-use Rattle.trace.proofs.Sweeps.{length-sweep, sweep-below, below-inside, below_or_not, replicate-same}
+use Rattle.trace.proofs.Sweeps.{length-sweep, sweep-below, below_or_not, replicate-same}
 use denote.Param.Members.{Mut, Called}
 use mathlib.Core.Logic.{⊎_elim}
 
@@ -31,14 +31,7 @@ module _ {F B : Type 0} (g : Mut F (ℕ × Unit {0}) B) (f : F) (h : ℕ → B) 
       → (k : ℕ) → k < n → get_or ys k d ≡ h k
   from_fn_at r c k l = made 0 n f refl (omega arith) r.each c k (omega arith) (omega arith)
 
-  -- the whole, in the place of any list of n
-  pub from_fn_sweep : (xs : List B) → length xs ≡ n → IsFromFnResult g f ys n
-      → ((k : ℕ) (y : B) (q : F) → k < n → Called g f (k, tt) y q → (q ≡ f) × (y ≡ h k)) → ys ≡ sweep h n xs
-  from_fn_sweep xs long r c =
-      sweep_ext h n xs ys d (r.long ∙ sym long) (omega (arith, long))
-      (λ i l. let l' : i < n = omega (arith, long) in from_fn_at r c i l' ∙ sym (below-inside n i h (λ j. get_or xs j d) l'))
-
--- the same, where the closure gives h below a count and what stood there before from the count on
+-- the whole, where the closure gives h below a count and what stood there before from the count on
 pub from_fn_below : {F B : Type 0} (g : Mut F (ℕ × Unit {0}) B) (f : F) (h : ℕ → B) (ys : List B) (d : B) (n count : ℕ) (xs : List B)
     → count ≤ n → length xs ≡ n → IsFromFnResult g f ys n
     → ((k : ℕ) (y : B) (q : F) → k < n → Called g f (k, tt) y q → (q ≡ f) × (y ≡ below count h (λ j. get_or xs j d) k)) → ys ≡ sweep h count xs

@@ -66,7 +66,7 @@ impl Capability {
         }
     }
 
-    // The sums with one unit more, where it counts.
+    // The sums with one unit more, where it counts. A flag, and no Option of a unit: both callers would make one by whether the unit is a load.
     #[tactic(auto, unfolding(crate::specs::Triggers::add_capability))]
     pub fn plus(self, counts: bool, unit: Capability) -> Capability
         requires { SmallCapability (2 ^ 60) self × SmallCapability (2 ^ 60) unit }
