@@ -9,8 +9,9 @@ use native.Mathlib.Omega.{arith}
 use borrow.Author.Tests.{le-leb, lt-ltb}
 use lib.ListN.{length, get_or, drop, replicate, length-append, length-map, length-replicate}
 use lib.Seq.{append_snoc, get_or-append_seam, get_or-drop, take_at}
+use Rattle.std.proofs.lemmas.Bool.{cases_lt}
 use Rattle.trace.specs.Sweeps.{records}
-use Rattle.trace.proofs.Sweeps.{below_or_not, every-all, get_or-sweep, get_or-sweep-past, sweep-same, records-rise, replicate-same}
+use Rattle.trace.proofs.Sweeps.{every-all, get_or-sweep, get_or-sweep-past, sweep-same, records-rise, replicate-same}
 use Rattle.plants.specs.Plants.{place}
 use Rattle.plants.specs.Rosters.{start_of, count_of, entries, stretch_of}
 use Rattle.plants.specs.Rosters.{kinds_known, place_at, places_in, no_stretch, stretch_at, ends_at, stretches_in, roster_sound}
@@ -110,7 +111,7 @@ module _ (c : Chains) (walkable : Walkable c) where
     stretch-places j (inr l) = rw (count_past j l, headless j l, chain-end c.next 65)
 
     pub stretches-places : stretch_of (roster_of c) ≡ places_of c
-    stretches-places = fun_ext (λ j. stretch-places j (below_or_not j c.aggregates))
+    stretches-places = fun_ext (λ j. stretch-places j (cases_lt j c.aggregates))
 
     pub side_by_side : SideBySide c (roster_of c)
     unfolding roster_of flat_of plant_of start_at count_at records
@@ -121,7 +122,9 @@ module _ (c : Chains) (walkable : Walkable c) where
           follows = λ j l.
               let here : j < c.aggregates = omega arith in
               rw (start-laid (suc j) l, start-laid j here, count-laid j here) (length-append (records (members_of c) j) (members_of c j));
-          covers = take_at (map place (all_members c)) (drop (length (all_members c)) (replicate 64 0)) (length (all_members c)) (length-map (all_members c) place);
+          covers =
+              take_at (map place (all_members c)) (drop (length (all_members c)) (replicate 64 0)) (length (all_members c))
+              (length-map (all_members c) place);
           plant = rw stretches-places;
         }
 

@@ -10,8 +10,9 @@ use native.Mathlib.Omega.{arith}
 use borrow.Author.Tests.{leb-true, eqb-true, eqb-false, ne_eqb}
 use lib.Dec.{eqb}
 use lib.ListN.{length}
+use Rattle.std.proofs.lemmas.Bool.{cases_lt}
 use Rattle.trace.specs.Sweeps.{every, records}
-use Rattle.trace.proofs.Sweeps.{below_or_not, every-at}
+use Rattle.trace.proofs.Sweeps.{every-at}
 use Rattle.chains.specs.Chains.{times_in}
 use Rattle.chains.specs.Rules.{once_at}
 use Rattle.chains.proofs.Steps.{times-append, times_none, Units}
@@ -51,7 +52,7 @@ module _ (f : ℕ → List ℕ) (unit : ℕ) where
       ⊎_elim
       (λ b. let r = times-somewhere k (omega (arith, times-next k)) in (r.0, (omega (arith, r.1.0), r.1.1)))
       (λ b. (k, (omega arith, b)))
-      (below_or_not (times_in unit (f k)) 1)
+      (cases_lt (times_in unit (f k)) 1)
 
   -- at most once in each, and in no two: at most once in all
   pub times-at-most : (k : ℕ) → ((j : ℕ) → j < k → times_in unit (f j) ≤ 1)
@@ -63,7 +64,7 @@ module _ (f : ℕ → List ℕ) (unit : ℕ) where
       ⊎_elim
       (λ b. omega (arith, times-next k))
       (λ b. omega (arith, times-next k, times-nowhere k (λ i l. apart i k l (omega arith) b), one k (omega arith)))
-      (below_or_not (times_in unit (f k)) 1)
+      (cases_lt (times_in unit (f k)) 1)
 
 -- ---- a list of units from 1 to n with none twice has at most n
 

@@ -9,7 +9,7 @@ use lib.Dec.{eqb}
 use lib.ListN.{length, get_or}
 use Rattle.chains.specs.Chains.{chain, Chain, ended, through, times_in}
 
--- ---- steps along a chain, with `left` and `unit` as the loop has them
+-- ---- steps along a chain from `unit`, of which so many are left
 
 module _ (next : List ℕ) where
   pub chain-end : (left : ℕ) → chain next left 0 ≡ []
@@ -31,7 +31,7 @@ module _ (next : List ℕ) where
       let b : suc i - 1 ≡ i = omega arith in
       rw (a, b)
 
-  -- the same for a loop that counts its turns up to so many
+  -- the same after so many turns of a loop of `most`
   pub chain-turn : (most turns unit : ℕ) → turns < most → 0 < unit
       → chain next (most - turns) unit ≡ unit ∷ chain next (most - (turns + 1)) (get_or next (unit - 1) 0)
   chain-turn most turns unit l h =

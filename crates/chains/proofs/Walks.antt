@@ -7,12 +7,14 @@ use Prim.Native.Nat.{ℕ, zero, suc, ◌+◌, ◌-◌, ◌*◌, ◌%◌, ◌≤�
 use native.Mathlib.Nat.{le_of_eq}
 use native.Mathlib.Numerals.{add-one}
 use native.Mathlib.Omega.{arith}
-use borrow.Author.Tests.{leb-true, leb-false, le-leb, lt-leb, eqb-true, eqb-false, not-true, not-false}
-use lib.Dec.{leb, eqb}
+use borrow.Author.Tests.{leb-true, leb-false, le-leb, lt-leb, not-true, not-false}
+use lib.Dec.{leb}
 use lib.ListN.{length, get_or, set, drop, replicate, length-append, length-set, length-map, length-replicate, get_or-replicate}
 use lib.Seq.{append_snoc, drop-cons, set_at, get_or-set_same, get_or-set_other, ext_get_or}
+use Rattle.std.specs.Array.{AllOfLen}
+use Rattle.std.proofs.lemmas.Bool.{cases_eq, cases_lt}
 use Rattle.trace.specs.Sweeps.{every, sweep, records}
-use Rattle.trace.proofs.Sweeps.{below_or_not, every-mono, every-all, every-fails, sweep-none, sweep-more, sweep-end, records-none, records-more}
+use Rattle.trace.proofs.Sweeps.{every-mono, every-all, every-fails, sweep-none, sweep-more, sweep-end, records-none, records-more}
 use Rattle.trace.proofs.Sweeps.{length-sweep, get_or-sweep, get_or-sweep-past}
 use Rattle.plants.specs.Plants.{place}
 use Rattle.chains.specs.declared.Chains.{Chains}
@@ -26,13 +28,6 @@ use Rattle.chains.specs.Walks.{unwalked, step_to, walked, stretch_walked, stretc
 use Rattle.chains.proofs.Indices.{next-inside, head-inside}
 use Rattle.chains.proofs.Steps.{chain-end, chain-out, chain-turn, length-chain, times-append, times-same, times-other, times_none}
 use Rattle.chains.proofs.Steps.{Units, units-none, units-append, units_in}
-
-same_or_not : (a b : ℕ) → (a ≡ b) ⊎ (a ≡ b → ⊥)
-same_or_not a b = go (eqb a b) refl
-  where
-    go : (t : Bool) → eqb a b ≡ t → (a ≡ b) ⊎ (a ≡ b → ⊥)
-    go true e = inl (eqb-true a b e)
-    go false e = inr (eqb-false a b e)
 
 pub walked-append : (w : Walk) (xs ys : List ℕ) → walked w (xs ++ ys) ≡ walked (walked w xs) ys
 unfolding walked
@@ -57,9 +52,6 @@ pub record Along (c : Chains) (before : Walk) (head : ℕ) (w : Walk) (unit turn
   pub whole : walked w (chain c.next (65 - turns) unit) ≡ walked before (chain c.next 65 head)
 
 module _ (c : Chains) (before : Walk) (head : ℕ) where
-  pub along-none : Walkable c → head ≤ c.units → Along c before head before head 0
-  along-none walkable h = record { small = walkable.units; place = h; few = omega arith; whole = refl }
-
   pub along-more : Walkable c → (w v : Walk) (unit turns i : ℕ) → turns < 65 → 0 < unit → Along c before head w unit turns
       → i ≡ unit - 1 → v ≡ step_to w i → Along c before head v (get_or c.next i 0) (turns + 1)
   unfolding walked step_to
@@ -88,6 +80,12 @@ module _ (c : Chains) (before : Walk) (head : ℕ) where
       let none : chain c.next (65 - turns) unit ≡ [] = rw z (chain-out c.next unit) in sym (ap (walked w) none) ∙ a.whole
 
 -- ---- along all chains
+
+-- an array by its default
+pub same-each : {A : Type 0} (a : A) (xs : List A) (n : ℕ) → AllOfLen (λ x. x ≡ a) xs n → xs ≡ replicate n a
+same-each a xs n all =
+    ext_get_or a xs (replicate n a) (all.long ∙ sym (length-replicate n a))
+    (λ i l. let k : i < n = rw all.long at l in all.at i a k ∙ sym (get_or-replicate n i a a k))
 
 pub record Across (c : Chains) (w : Walk) (stretches : List Stretch) (j : ℕ) : Type 0 where
   pub turns : j ≤ c.aggregates
@@ -206,7 +204,7 @@ module _ (n : ℕ) (small : n ≤ 64) where
     -- one more of a unit that was not met before leaves each there at most once
     once-kept : times_in (suc i) done ≡ 0 → every (once_at done) n ≡ true → every (once_at more) n ≡ true
     once-kept z e =
-        every-mono (once_at done) (once_at more) n (λ j b h. go j h (same_or_not j i)) e
+        every-mono (once_at done) (once_at more) n (λ j b h. go j h (cases_eq j i)) e
       where
         go : (j : ℕ) → once_at done j ≡ true → (j ≡ i) ⊎ (j ≡ i → ⊥) → once_at more j ≡ true
         go j h (inl q) = rw q (rw times-here (rw z refl))
@@ -258,7 +256,7 @@ module _ (n : ℕ) (small : n ≤ 64) where
     recorded_more =
         record {
           size = length-set w.met i true ∙ k.size;
-          met = λ j h. met-more j h (same_or_not j i);
+          met = λ j h. met-more j h (cases_eq j i);
           steps = let a = length-append done (suc i ∷ []) in omega (arith, k.steps);
           list = list-more;
           twice = twice-more (get_or w.met i false) w.twice refl refl;
@@ -335,4 +333,4 @@ module _ (c : Chains) (inside : indices_in c ≡ true) where
     pub walk-met : walk.met ≡ chained_of c
     walk-met =
         ext_get_or false walk.met (chained_of c) (recorded.size ∙ sym (length-chained c))
-        (λ i l. met-at i (omega (arith, recorded.size)) (below_or_not i c.units))
+        (λ i l. met-at i (omega (arith, recorded.size)) (cases_lt i c.units))

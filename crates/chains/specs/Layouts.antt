@@ -1,6 +1,6 @@
 -- What a load holds of the chains: "each aggregate's members as one stretch of a flat list in chain order, with a start and a count per
 -- aggregate" (02, 2026-08).
-use Rattle.std.specs.Prelude.{◌≡◌, List, ◌++◌, map, ℕ, suc, ◌+◌, ◌<◌, length, take, drop, replicate}
+use Rattle.std.specs.Prelude.{◌≡◌, Bool, List, ◌++◌, map, ℕ, suc, ◌+◌, ◌<◌, length, take, drop, replicate}
 use Rattle.trace.specs.Sweeps.{sweep, records}
 use Rattle.plants.specs.Plants.{place}
 use Rattle.plants.specs.Rosters.{no_stretch, start_of, count_of, stretch_of, held}
@@ -23,18 +23,22 @@ stretch_laid c j = record { start = start_at c j; count = count_at c j }
 unfoldable pub flat_of : Chains → List ℕ
 flat_of c = map place (all_members c) ++ drop (length (all_members c)) (replicate 64 0)
 
-unfoldable pub roster_of : Chains → Roster
-roster_of c =
+-- the chains' own counts, lengths and kinds, beside who stands in a chain and where
+abbrev pub roster_with : Chains → List Bool → List ℕ → List Stretch → Roster
+roster_with c chained members stretches =
     record {
       units = c.units;
       aggregates = c.aggregates;
       small = c.small;
       large = c.large;
       kinds = c.kinds;
-      chained = chained_of c;
-      members = flat_of c;
-      stretches = sweep (stretch_laid c) c.aggregates (replicate 16 no_stretch);
+      chained = chained;
+      members = members;
+      stretches = stretches;
     }
+
+unfoldable pub roster_of : Chains → Roster
+roster_of c = roster_with c (chained_of c) (flat_of c) (sweep (stretch_laid c) c.aggregates (replicate 16 no_stretch))
 
 -- "The list must equal the chains it came from"
 pub record SideBySide (c : Chains) (r : Roster) : Type 0 where

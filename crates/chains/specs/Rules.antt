@@ -8,11 +8,17 @@ use Rattle.chains.specs.declared.Chains.{Chains}
 
 -- 5: next at most n, a head in 1 to n
 
+abbrev pub next_in : ℕ → ℕ → Bool
+next_in units next = leb next units
+
 abbrev pub next_at : ℕ → List ℕ → ℕ → Bool
-next_at units next i = leb (get_or next i 0) units
+next_at units next i = next_in units (get_or next i 0)
+
+abbrev pub head_in : ℕ → ℕ → Bool
+head_in units head = leb 1 head && leb head units
 
 abbrev pub head_at : ℕ → List ℕ → ℕ → Bool
-head_at units heads j = leb 1 (get_or heads j 0) && leb (get_or heads j 0) units
+head_at units heads j = head_in units (get_or heads j 0)
 
 unfoldable pub indices_in : Chains → Bool
 indices_in c = every (next_at c.units c.next) c.units && every (head_at c.units c.heads) c.aggregates

@@ -4,7 +4,7 @@ use Rattle.trace.specs.Sweeps.{sweep}
 use Rattle.plants.specs.declared.Roster.{Roster}
 use Rattle.plants.specs.declared.Stretch.{Stretch}
 use Rattle.plants.specs.Rosters.{no_stretch}
-use Rattle.chains.specs.Layouts.{start_at, count_at}
+use Rattle.chains.specs.Layouts.{start_at, count_at, roster_with}
 use Rattle.chains.specs.declared.Chains.{Chains}
 use Rattle.chains.specs.declared.visits.Walk.{Walk}
 use Rattle.chains.specs.declared.visits.Walked.{Walked}
@@ -35,14 +35,4 @@ unfoldable pub stretches_walked : Chains → List Stretch
 stretches_walked c = sweep (stretch_walked c) c.aggregates (replicate 16 no_stretch)
 
 unfoldable pub roster_from : Chains → Walked → Roster
-roster_from c w =
-    record {
-      units = c.units;
-      aggregates = c.aggregates;
-      small = c.small;
-      large = c.large;
-      kinds = c.kinds;
-      chained = w.walk.met;
-      members = w.walk.members;
-      stretches = w.stretches;
-    }
+roster_from c w = roster_with c w.walk.met w.walk.members w.stretches

@@ -4,15 +4,17 @@
 
 pub mod visits;
 
-ghost use Rattle.std.specs.Prelude.{◌≡◌, ◌&&◌, ◌≤◌, leb};
+ghost use Rattle.std.specs.Prelude.{◌≡◌, ◌≤◌};
+ghost use Rattle.std.specs.List.{list_all};
 ghost use Rattle.trace.specs.Sweeps.{every};
-ghost use Rattle.kinds.specs.Kinds.{is_semi_scheduled};
-ghost use Rattle.chains.specs.Rules.{next_at, head_at, ends_at, scheduled_at, indices_in};
+ghost use Rattle.chains.specs.Rules.{next_in, head_in, ends_at, scheduled_at, indices_in, Walkable};
 
 use kinds::Kind;
 use plants::Lengths;
 
-// A unit's index is its number less one; 0 ends a chain. Entries past the counts are no kind and 0.
+// A unit's index is its number less one; 0 ends a chain, as 01 has it. Entries past the counts are no kind and 0. `kinds` and `next` stand side by side:
+// the rules and a roster speak of each alone, and pairs of them would have to be taken apart there. A bound of the counts is
+// asked where it is needed and is no ghost field: `fields_of`, a definition of `register`, speaks of the chains of any bytes.
 #[derive(Clone, Copy, Debug, PartialEq, Eq, Hash)]
 pub struct Chains {
     pub units: usize,
@@ -24,42 +26,45 @@ pub struct Chains {
     pub heads: [u8; 16],
 }
 
+// Chains whose counts and indices are in range, so that they can be followed. The tests below ask less, the counts alone, so they take `Chains`.
+#[derive(Clone, Copy, Debug, PartialEq, Eq, Hash)]
+pub struct ChainsInRange {
+    pub chains: Chains,
+    pub ghost walkable: { Walkable chains },
+}
+
 fn next_in(next: u8, units: usize) -> bool
-    ensures { result ≡ leb next units }
+    ensures { result ≡ next_in units next }
 {
     usize::from(next) <= units
 }
 
-fn nexts_in(chains: Chains) -> bool
-    requires { chains.units ≤ 64 }
-    ensures { result ≡ every (next_at chains.units chains.next) chains.units }
+// What this shares with `heads_in` is std's `all`; with both in `indices_in` itself the proof didn't close.
+fn nexts_in(next: &[u8], units: usize) -> bool
+    ensures { result ≡ list_all (next_in units) next.now }
 {
-    chains.next[..chains.units]
-        .iter()
-        .all(|next| next_in(*next, chains.units))
+    next.iter().all(|next| next_in(*next, units))
 }
 
 fn head_in(head: u8, units: usize) -> bool
-    ensures { result ≡ (leb 1 head && leb head units) }
+    ensures { result ≡ head_in units head }
 {
     1 <= head && next_in(head, units)
 }
 
-fn heads_in(chains: Chains) -> bool
-    requires { chains.aggregates ≤ 16 }
-    ensures { result ≡ every (head_at chains.units chains.heads) chains.aggregates }
+fn heads_in(heads: &[u8], units: usize) -> bool
+    ensures { result ≡ list_all (head_in units) heads.now }
 {
-    chains.heads[..chains.aggregates]
-        .iter()
-        .all(|head| head_in(*head, chains.units))
+    heads.iter().all(|head| head_in(*head, units))
 }
 
-#[tactic(auto, unfolding(crate::specs::Rules::indices_in))]
+#[tactic(auto, using(crate::proofs::Indices::nexts_tested, crate::proofs::Indices::heads_tested), unfolding(crate::specs::Rules::indices_in))]
 pub fn indices_in(chains: Chains) -> bool
     requires { (chains.units ≤ 64) × (chains.aggregates ≤ 16) }
     ensures { result ≡ indices_in chains }
 {
-    nexts_in(chains) && heads_in(chains)
+    nexts_in(&chains.next[..chains.units], chains.units)
+        && heads_in(&chains.heads[..chains.aggregates], chains.units)
 }
 
 // Every unit that no chain met has next 0.
@@ -67,13 +72,7 @@ pub fn rest_ends(chains: Chains, met: [bool; 64]) -> bool
     requires { chains.units ≤ 64 }
     ensures { result ≡ every (ends_at met chains.next) chains.units }
 {
-    (0..chains.units).all(|i| met[i] | (chains.next[i] == 0))
-}
-
-fn is_semi_scheduled(kind: Option<Kind>) -> bool
-    ensures { result ≡ is_semi_scheduled kind }
-{
-    matches!(kind, Some(Kind::SemiScheduled))
+    (0..chains.units).all(|i| met[i] || chains.next[i] == 0)
 }
 
 // No unit that a chain met is semi-scheduled.
@@ -81,5 +80,5 @@ pub fn members_scheduled(chains: Chains, met: [bool; 64]) -> bool
     requires { chains.units ≤ 64 }
     ensures { result ≡ every (scheduled_at met chains.kinds) chains.units }
 {
-    (0..chains.units).all(|i| !(met[i] & is_semi_scheduled(chains.kinds[i])))
+    (0..chains.units).all(|i| !(met[i] && kinds::is_semi_scheduled(chains.kinds[i])))
 }

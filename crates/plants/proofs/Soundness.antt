@@ -1,14 +1,14 @@
 -- What a sound roster gives at each index. Assumes nothing.
-use mathlib.Core.Path.{◌≡◌, refl}
-use mathlib.Core.Bool.{Bool, true, false, ◌&&◌}
+use mathlib.Core.Path.{◌≡◌}
+use mathlib.Core.Bool.{Bool, true, ◌&&◌}
 use Prim.Native.Nat.{ℕ, ◌+◌, ◌≤◌, ◌<◌}
 use borrow.Author.Tests.{leb-true, ltb-true, le-leb}
 use lib.Dec.{leb}
 use lib.ListN.{get_or}
-use Rattle.trace.proofs.Sweeps.{every-at}
+use Rattle.trace.proofs.Sweeps.{every-at, sweep-none, sweep-more, sweep-end}
 use Rattle.trace.proofs.Tests.{and_l, and_r}
 use Rattle.plants.specs.declared.Roster.{Roster}
-use Rattle.plants.specs.Rosters.{start_of, count_of, no_roster, counts_in, kinds_known, place_at, places_in, ends_at, stretches_in, roster_sound}
+use Rattle.plants.specs.Rosters.{start_of, count_of, counts_in, kinds_known, place_at, places_in, ends_at, stretches_in, roster_sound}
 
 -- ---- counts
 
@@ -36,10 +36,6 @@ pub sound-by : (r : Roster) → counts_in r.units r.aggregates ≡ true → kind
 unfolding roster_sound
 sound-by r counts kinds places stretches = rw (counts, kinds, places, stretches)
 
-pub no-roster-unsound : roster_sound no_roster ≡ false
-unfolding roster_sound no_roster
-no-roster-unsound = refl
-
 module _ (r : Roster) (sound : roster_sound r ≡ true) where
   abbrev counts : Bool
   counts = counts_in r.units r.aggregates
@@ -57,18 +53,11 @@ module _ (r : Roster) (sound : roster_sound r ≡ true) where
   unfolding roster_sound
   sound-counts = and_l counts (kinds && (places && stretches)) sound
 
-  pub sound-least : 1 ≤ r.units
-  sound-least = counts-least r.units r.aggregates sound-counts
-
   pub sound-units : r.units ≤ 64
   sound-units = counts-units r.units r.aggregates sound-counts
 
   pub sound-aggregates : r.aggregates ≤ 16
   sound-aggregates = counts-aggregates r.units r.aggregates sound-counts
-
-  pub sound-kinds : kinds_known r.kinds r.units ≡ true
-  unfolding roster_sound
-  sound-kinds = and_l kinds (places && stretches) (and_r counts (kinds && (places && stretches)) sound)
 
   inside : (places && stretches) ≡ true
   unfolding roster_sound
@@ -81,3 +70,9 @@ module _ (r : Roster) (sound : roster_sound r ≡ true) where
   pub stretch-inside : (j : ℕ) → j < r.aggregates → start_of r j + count_of r j ≤ 64
   unfolding stretches_in
   stretch-inside j l = leb-true _ _ (every-at (ends_at r.stretches) r.aggregates (and_r places stretches inside) j l)
+
+-- what an index of a sound roster's lists is below, for the functions that go along them
+pub ruleset in_bounds = (sound-units, sound-aggregates, stretch-inside)
+
+-- one value for each of its aggregates, written in turn
+pub ruleset each_aggregate = (sound-aggregates, sweep-none, sweep-more, sweep-end)

@@ -1,7 +1,8 @@
--- The stretch of an aggregate: as a slice of the list of members, how long, and that every member is a unit. Assumes nothing.
-use mathlib.Core.Path.{◌≡◌, refl, ap}
+-- The stretch of an aggregate: as a slice of the list of members, how long, that every member is a unit, and what is the same at each.
+-- Assumes nothing.
+use mathlib.Core.Path.{◌≡◌, refl, ap, ap₂, subst}
 use mathlib.Core.Bool.{Bool, true, false, ◌||◌}
-use mathlib.Core.List.{List, [], ◌∷◌}
+use mathlib.Core.List.{List, [], ◌∷◌, map}
 use Prim.Native.Nat.{ℕ, zero, suc, ◌+◌, ◌≤◌, ◌<◌}
 use native.Mathlib.Omega.{arith}
 use borrow.Author.Tests.{eqb-true, eq-eqb}
@@ -62,6 +63,15 @@ elem-at [] i h = absurd (omega arith)
 elem-at (x ∷ xs) zero h = rw (eq-eqb x x refl)
 elem-at (x ∷ xs) (suc i) h = or_right (eqb (get_or xs i 0) x) _ (elem-at xs i (omega arith))
 
-pub stretch-at : (r : Roster) → roster_sound r ≡ true → (j : ℕ) → j < r.aggregates → (i : ℕ) → i < length (stretch_of r j)
-    → get_or (stretch_of r j) i 0 < r.units
-stretch-at r sound j l i h = member-inside r sound j l _ (elem-at (stretch_of r j) i h)
+pub stretch-at : (r : Roster) → roster_sound r ≡ true → (j : ℕ) → j < r.aggregates → {places : List ℕ} → places ≡ stretch_of r j
+    → (i : ℕ) → i < length places → get_or places i 0 < r.units
+stretch-at r sound j l {places} e i h =
+    let here = get_or places i 0 in
+    member-inside r sound j l here (subst (λ (us : List ℕ). elem here us ≡ true) e (elem-at places i h))
+
+-- ---- what is the same at every member
+
+pub map_same : {A : Type 0} (f g : ℕ → A) (us : List ℕ) → ((u : ℕ) → elem u us ≡ true → f u ≡ g u) → map f us ≡ map g us
+map_same f g [] h = refl
+map_same {A} f g (u ∷ us) h =
+    ap₂ (λ (x : A) (xs : List A). x ∷ xs) (h u (rw (eq-eqb u u refl))) (map_same f g us (λ v e. h v (or_right (eqb v u) _ e)))

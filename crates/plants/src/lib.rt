@@ -8,7 +8,7 @@ ghost use Rattle.plants.specs.Rosters.{no_roster, no_stretch, counts_in, kinds_k
 use kinds::Kind;
 
 // Run lengths: to Not-Responding, to Pending, to declaration.
-#[derive(Clone, Copy, Debug, PartialEq, Eq, Hash)]
+#[derive(Clone, Copy, Debug, Default, PartialEq, Eq, Hash)]
 pub struct Lengths {
     pub not_responding: u8,
     pub pending: u8,
@@ -16,7 +16,7 @@ pub struct Lengths {
 }
 
 // Where an aggregate's members stand in the list of all members, and how many there are.
-#[derive(Clone, Copy, Debug, PartialEq, Eq, Hash)]
+#[derive(Clone, Copy, Debug, Default, PartialEq, Eq, Hash)]
 pub struct Stretch {
     pub start: u8,
     pub count: u8,
@@ -24,8 +24,10 @@ pub struct Stretch {
 
 // A unit's place is its number less one; its kind is `None` where the register's number is not listed. `members` has the places of all
 // members, aggregate after aggregate, each in the order of its chain, and `stretches` where those of each aggregate stand. `chained` is
-// whether a unit is a member of some aggregate. Entries past the counts are no kind, 0 and false.
-#[derive(Clone, Copy, Debug, PartialEq, Eq, Hash)]
+// whether a unit is a member of some aggregate. Entries past the counts are no kind, 0 and false. Kinds come whole from a register's records
+// and `chained` whole from the walk along its chains, so they are two lists, as in the rules' plant, and no list of pairs.
+// `small` and `large` are two fields here, in `Chains` and in `Rule`, as in the rules' plant: each use reads one length by the name of its run.
+#[derive(Clone, Copy, Debug, Default, PartialEq, Eq, Hash)]
 pub struct Roster {
     pub units: usize,
     pub aggregates: usize,
@@ -37,48 +39,24 @@ pub struct Roster {
     pub stretches: [Stretch; 16],
 }
 
-// No units: a roster of zeros.
-impl Default for Roster {
-    ghost is_default = { λ roster. roster ≡ no_roster };
-
-    #[tactic(auto, unfolding(crate::specs::Rosters::no_roster))]
-    fn default() -> Self {
-        let none = Lengths {
-            not_responding: 0,
-            pending: 0,
-            declaration: 0,
-        };
-        Roster {
-            units: 0,
-            aggregates: 0,
-            small: none,
-            large: none,
-            kinds: [None; 64],
-            chained: [false; 64],
-            members: [0; 64],
-            stretches: [Stretch { start: 0, count: 0 }; 16],
-        }
-    }
-}
-
 pub fn counts_in(units: usize, aggregates: usize) -> bool
     ensures { result ≡ counts_in units aggregates }
 {
     1 <= units && units <= 64 && aggregates <= 16
 }
 
+// A list and a count, as in the definitions: a slice would be shown to be their list's front by each caller.
 #[tactic(auto, unfolding(crate::specs::Rosters::kinds_known))]
-pub fn known_kinds(kinds: [Option<Kind>; 64], units: usize) -> bool
+pub fn known_kinds(kinds: &[Option<Kind>; 64], units: usize) -> bool
     requires { units ≤ 64 }
-    ensures { result ≡ kinds_known kinds units }
+    ensures { result ≡ kinds_known kinds.now units }
 {
     kinds[..units].iter().all(|kind| kind.is_some())
 }
 
 // Every entry of the list is the place of a unit, past the last stretch too.
-#[tactic(auto)]
-fn places_in(members: [u8; 64], units: usize) -> bool
-    ensures { result ≡ places_in members units }
+fn places_in(members: &[u8; 64], units: usize) -> bool
+    ensures { result ≡ places_in members.now units }
 {
     members.iter().all(|place| usize::from(*place) < units)
 }
@@ -90,10 +68,11 @@ fn stretch_in(stretch: Stretch) -> bool
     usize::from(stretch.start) + usize::from(stretch.count) <= 64
 }
 
+// What this test shares with the other two over a list is std's `all`.
 #[tactic(auto, unfolding(crate::specs::Rosters::stretches_in))]
-fn stretches_in(stretches: [Stretch; 16], aggregates: usize) -> bool
+fn stretches_in(stretches: &[Stretch; 16], aggregates: usize) -> bool
     requires { aggregates ≤ 16 }
-    ensures { result ≡ stretches_in stretches aggregates }
+    ensures { result ≡ stretches_in stretches.now aggregates }
 {
     stretches[..aggregates]
         .iter()
@@ -102,17 +81,19 @@ fn stretches_in(stretches: [Stretch; 16], aggregates: usize) -> bool
 
 // Whether the roster can be gone over: a call can be handed one that no register gave.
 #[tactic(auto, unfolding(crate::specs::Rosters::roster_sound))]
-pub fn roster_sound(roster: Roster) -> bool
-    ensures { result ≡ roster_sound roster }
+pub fn roster_sound(roster: &Roster) -> bool
+    ensures { result ≡ roster_sound roster.now }
 {
     counts_in(roster.units, roster.aggregates)
-        && known_kinds(roster.kinds, roster.units)
-        && places_in(roster.members, roster.units)
-        && stretches_in(roster.stretches, roster.aggregates)
+        && known_kinds(&roster.kinds, roster.units)
+        && places_in(&roster.members, roster.units)
+        && stretches_in(&roster.stretches, roster.aggregates)
 }
 
 impl Roster {
-    // The places of an aggregate's members, in the order of its chain.
+    // The places of an aggregate's members, in the order of its chain. That there is such an aggregate is asked here, in `passes` and in
+    // `targets`: an index type would be made in each loop and read once.
+    #[tactic(auto, using(crate::proofs::Soundness::in_bounds))]
     pub fn stretch(&self, aggregate: usize) -> &[u8]
         requires sound { roster_sound self.now ≡ true }
         requires aggregate_in_bounds { aggregate < self.now.aggregates }

@@ -5,17 +5,18 @@ use mathlib.Core.Bool.{Bool, true, false, false≢true, ◌&&◌, not}
 use mathlib.Core.List.{List}
 use Prim.Native.Nat.{ℕ, zero, suc, ◌+◌, ◌≤◌, ◌<◌}
 use native.Mathlib.Omega.{arith}
-use borrow.Author.Tests.{leb-true, leb-false, le-leb, eqb-true, eq-eqb}
+use borrow.Author.Tests.{leb-true, le-leb}
 use lib.Dec.{leb}
 use lib.ListN.{length, get_or, replicate, length-map, length-replicate}
+use Rattle.std.proofs.lemmas.Bool.{cases_lt}
 use Rattle.trace.specs.Sweeps.{sweep, records}
-use Rattle.trace.proofs.Sweeps.{below_or_not, every-at, every-all, length-sweep, get_or-sweep, get_or-sweep-past, replicate-same}
+use Rattle.trace.proofs.Sweeps.{every-at, every-all, length-sweep, get_or-sweep, get_or-sweep-past, replicate-same}
 use Rattle.trace.proofs.Tests.{and_l, and_r}
 use Rattle.plants.specs.Rosters.{counts_in, kinds_known, roster_sound}
 use Rattle.plants.proofs.Soundness.{counts-least, counts-units, counts-aggregates}
 use Rattle.chains.specs.declared.Chains.{Chains}
 use Rattle.chains.specs.Chains.{chain, Chain, members_of, all_members, times_in, met_at, chained_of, places_of}
-use Rattle.chains.specs.Rules.{indices_in, once_at, met_once, ends_at, rest_ends, scheduled_at, members_scheduled, Walkable}
+use Rattle.chains.specs.Rules.{indices_in, once_at, met_once, rest_ends, scheduled_at, members_scheduled, Walkable}
 use Rattle.chains.specs.Layouts.{roster_of, SideBySide}
 use Rattle.chains.proofs.Indices.{head-least}
 use Rattle.chains.proofs.Steps.{chain-whole, chain_same, units_in}
@@ -141,10 +142,6 @@ module _ (bytes : List ℕ) (r : Registered) (accepted : registered_of bytes ≡
   is : r ≡ accepted_as (fields_of bytes)
   is = let f = passed-accepted bytes passed in cc
 
-  pub accepted-visits : r.visits ≡ length (all_members (fields_of bytes))
-  unfolding accepted_as
-  accepted-visits = ap (λ (x : Registered). x.visits) is
-
   pub accepted-roster : r.roster ≡ roster_of (fields_of bytes)
   unfolding accepted_as
   accepted-roster = ap (λ (x : Registered). x.roster) is
@@ -168,7 +165,7 @@ module _ (c : Chains) (inside : indices_in c ≡ true) where
   -- a unit that stands there at all is from 1 to n, so the test has looked at it
   pub all_once : met_once c ≡ true → (unit : ℕ) → times_in unit (all_members c) ≤ 1
   unfolding met_once
-  all_once e unit = go unit (below_or_not (times_in unit (all_members c)) 2) (units_in c.units (all_members c) (all-units c inside) unit)
+  all_once e unit = go unit (cases_lt (times_in unit (all_members c)) 2) (units_in c.units (all_members c) (all-units c inside) unit)
     where
       go : (u : ℕ) → (times_in u (all_members c) < 2) ⊎ (2 ≤ times_in u (all_members c))
           → (1 ≤ times_in u (all_members c) → (1 ≤ u) × (u ≤ c.units)) → times_in u (all_members c) ≤ 1
@@ -188,7 +185,7 @@ module _ (c : Chains) (inside : indices_in c ≡ true) where
   once-apart e =
       record {
         within = λ unit j l. let h = times-one (members_of c) unit c.aggregates j l in let o = all_once e unit in omega arith;
-        between = λ unit j k a b n m. go unit j k a b n m (below_or_not j k);
+        between = λ unit j k a b n m. go unit j k a b n m (cases_lt j k);
       }
     where
       go : (unit j k : ℕ) → j < c.aggregates → k < c.aggregates → (j ≡ k → ⊥) → 1 ≤ times_in unit (members_of c j)
@@ -224,13 +221,6 @@ module _ (c : Chains) (walkable : Walkable c) where
     member-marked j h m =
         let t = times-one (members_of c) (suc i) c.aggregates j h in
         marked-at ∙ le-leb 1 (times_in (suc i) (records (members_of c) c.aggregates)) (omega arith)
-
-    pub unmarked-member : get_or (chained_of c) i false ≡ false → (j : ℕ) → j < c.aggregates → times_in (suc i) (members_of c j) ≡ 0
-    unfolding all_members
-    unmarked-member e j h =
-        let t = times-one (members_of c) (suc i) c.aggregates j h in
-        let o = leb-false 1 (times_in (suc i) (records (members_of c) c.aggregates)) (sym marked-at ∙ e) in
-        omega arith
 
 -- ---- refusal 30, whatever the marks: no chain has a unit of kind 4
 
@@ -300,14 +290,6 @@ module _ (c : Chains) (loaded : Loaded c) where
     members-steps steps h = chain_same c.next members-chain steps (let f = members-few in omega arith)
 
     -- no chain is empty
-    pub members-some : 1 ≤ times_in (get_or c.heads j 0) (members_of c j)
-    unfolding members_of chain times_in
-    members-some = go (get_or c.heads j 0) (head-least c inside j l)
-      where
-        go : (head : ℕ) → 1 ≤ head → 1 ≤ times_in head (chain c.next 65 head)
-        go zero h = absurd (omega arith)
-        go (suc i) h = rw (eq-eqb (suc i) (suc i) refl) (omega arith)
-
     pub members-nonempty : 1 ≤ length (places_of c j)
     unfolding places_of members_of chain
     members-nonempty = rw length-map (go (get_or c.heads j 0) (head-least c inside j l))
@@ -315,9 +297,3 @@ module _ (c : Chains) (loaded : Loaded c) where
         go : (head : ℕ) → 1 ≤ head → 1 ≤ length (chain c.next 65 head)
         go zero h = absurd (omega arith)
         go (suc i) h = omega arith
-
-  -- a unit in no chain has next 0
-  pub unmarked-ends : (i : ℕ) → i < c.units → get_or (chained_of c) i false ≡ false → get_or c.next i 0 ≡ 0
-  unfolding rest_ends
-  unmarked-ends i l e =
-      eqb-true (get_or c.next i 0) 0 (rw e at (every-at (ends_at (chained_of c) c.next) c.units loaded.ends i l))

@@ -1,16 +1,17 @@
 -- Each way out of the code, over plain values: what was read and tested on the way there, and what the definitions then say.
 -- Assumes nothing.
 use mathlib.Core.Path.{◌≡◌, sym, ◌∙◌}
-use mathlib.Core.Bool.{Bool, true, false, not, ◌&&◌}
-use mathlib.Core.List.{List}
-use Prim.Native.Nat.{ℕ, ◌+◌, ◌*◌, ◌≤◌, ◌<◌}
-use borrow.Author.Tests.{not-true, not-false, le-leb, lt-leb, eqb-true}
-use lib.ListN.{length, replicate}
-use Rattle.trace.specs.Sweeps.{every, sweep}
+use mathlib.Core.Bool.{Bool, true, false, not, ◌&&◌, and_assoc}
+use mathlib.Core.List.{List, ◌++◌}
+use Prim.Native.Nat.{ℕ, ◌+◌, ◌≤◌, ◌<◌}
+use borrow.Author.Tests.{not-true, not-false, le-leb, lt-leb}
+use native.Mathlib.Omega.{arith}
+use lib.ListN.{length, get_or, take, drop}
+use Rattle.std.proofs.lemmas.List.{get_or-take, length-take-le, take-append-drop}
+use Rattle.trace.specs.Sweeps.{every}
 use Rattle.plants.specs.declared.Lengths.{Lengths}
 use Rattle.plants.specs.declared.Roster.{Roster}
 use Rattle.plants.specs.Rosters.{counts_in, kinds_known}
-use Rattle.plants.proofs.Soundness.{counts-least, counts-units, counts-aggregates}
 use Rattle.chains.specs.declared.Chains.{Chains}
 use Rattle.chains.specs.declared.visits.Walked.{Walked}
 use Rattle.chains.specs.Chains.{all_members, chained_of}
@@ -23,10 +24,12 @@ use Rattle.register.specs.declared.RegisterRefusal.{RegisterRefusal}
 use Rattle.register.specs.declared.RegisterRefusal.TheVariants.{Length, Counts, RunLengths, Record, Index, MetTwice, Unmet, SemiScheduledMember}
 use Rattle.std.specs.Prelude.{Option, Result, Ok, Err}
 use Rattle.kinds.specs.declared.Kind.{Kind}
-use Rattle.register.specs.Fields.{unit_count, aggregate_count, lengths_at, field_at, kinds_of, nexts_of, heads_of, fields_of}
-use Rattle.register.specs.Rules.{whole_length, spare_at, header_spare, units_spare, heads_spare}
-use Rattle.register.specs.Registers.{accepted_as, lengths_rise, fields_known, chained_from, records_from, registered_of}
+use Rattle.register.specs.Fields.{unit_count, aggregate_count, lengths_at, kinds_of, nexts_of, heads_of, fields_of}
+use Rattle.register.specs.Rules.{whole_length, header_spare, units_spare, heads_spare}
+use Rattle.register.specs.Registers.{accepted_as, lengths_rise, fields_known, chained_from, records_from, registered_of, Reads}
 use Rattle.register.specs.Headers.{Headed}
+use Rattle.register.proofs.Parts.{units-in, aggregates-in, lengths-in}
+use Rattle.register.proofs.Refusals.{reads}
 
 -- a rule whose test the code found to fail, or to hold
 failed : {t holds : Bool} → t ≡ holds → not t ≡ true → holds ≡ false
@@ -37,77 +40,116 @@ passed {t} e f = sym e ∙ not-false t f
 
 -- ---- the header, refusals 1 to 3
 
-module _ (bytes : List ℕ) where
-  pub short-1 : length bytes < 16 → Err Length ≡ registered_of bytes
-  unfolding registered_of
-  short-1 h = rw (lt-leb 16 (length bytes) h)
+short-1 : (bytes : List ℕ) → length bytes < 16 → Err Length ≡ registered_of bytes
+unfolding registered_of
+short-1 bytes h = rw (lt-leb 16 (length bytes) h)
 
-  module _ (long : 16 ≤ length bytes) (counts : Bool) (c : counts ≡ counts_in (unit_count bytes) (aggregate_count bytes)) where
-    pub counts-2 : not counts ≡ true → Err Counts ≡ registered_of bytes
+pub short-reads : (bytes : List ℕ) → length bytes < 16 → Reads bytes (Err Length)
+short-reads bytes h = reads bytes (Err Length) (short-1 bytes h)
+
+-- the first 16 bytes, and those that follow
+module _ (bytes header records : List ℕ)
+    (split : (header ≡ take 16 bytes) × (records ≡ drop 16 bytes) × (length records + 16 ≡ length bytes)) where
+  long : 16 ≤ length bytes
+  long = omega (arith, split.2)
+
+  together : header ++ records ≡ bytes
+  together = rw (split.0, split.1) (take-append-drop 16 bytes)
+
+  size : length header ≡ 16
+  size = rw split.0 (length-take-le 16 bytes long)
+
+  at-header : (i : ℕ) → i < 16 → get_or header i 0 ≡ get_or bytes i 0
+  at-header i h = rw split.0 (get_or-take 16 bytes i 0 h)
+
+  module _ (counts : Bool) (c : counts ≡ counts_in (unit_count header) (aggregate_count header)) where
+    counts_is : counts ≡ counts_in (unit_count bytes) (aggregate_count bytes)
+    counts_is = rw (← at-header 0 (omega arith), ← at-header 1 (omega arith)) c
+
+    pub counts-2 : counts ≡ false → Reads bytes (Err Counts)
     unfolding registered_of
-    counts-2 e = rw (le-leb 16 (length bytes) long, failed c e)
+    counts-2 e = reads bytes (Err Counts) (rw (le-leb 16 (length bytes) long, sym counts_is ∙ e))
 
-    module _ (counted : not counts ≡ false) (whole : Bool) (w : whole ≡ whole_length bytes) where
-      pub length-1 : not whole ≡ true → Err Length ≡ registered_of bytes
+    module _ (counted : counts ≡ true) (whole : Bool) (w : whole ≡ whole_length (header ++ records)) where
+      whole_is : whole ≡ whole_length bytes
+      whole_is = rw (← together) w
+
+      pub length-1 : whole ≡ false → Reads bytes (Err Length)
       unfolding registered_of
-      length-1 e = rw (le-leb 16 (length bytes) long, passed c counted, failed w e)
+      length-1 e = reads bytes (Err Length) (rw (le-leb 16 (length bytes) long, sym counts_is ∙ counted, sym whole_is ∙ e))
 
-      module _ (complete : not whole ≡ false) where
-        pub headed : Headed bytes
-        headed =
-            let units = unit_count bytes in
-            let aggregates = aggregate_count bytes in
-            record {
-              least = counts-least units aggregates (passed c counted);
-              units = counts-units units aggregates (passed c counted);
-              aggregates = counts-aggregates units aggregates (passed c counted);
-              whole = eqb-true _ _ (passed w complete);
-            }
+      module _ (complete : whole ≡ true) (rise : Bool) (l : rise ≡ lengths_rise header) where
+        rise_is : rise ≡ lengths_rise bytes
+        unfolding lengths_rise
+        rise_is =
+            rw (
+              ← at-header 2 (omega arith),
+              ← at-header 3 (omega arith),
+              ← at-header 4 (omega arith),
+              ← at-header 5 (omega arith),
+              ← at-header 6 (omega arith),
+              ← at-header 7 (omega arith),
+            )
+            l
 
-        module _ (rise : Bool) (l : rise ≡ lengths_rise bytes) where
-          pub lengths-3 : not rise ≡ true → Err RunLengths ≡ registered_of bytes
-          unfolding registered_of
-          lengths-3 e = rw (le-leb 16 (length bytes) long, passed c counted, passed w complete, failed l e)
+        pub lengths-3 : rise ≡ false → Reads bytes (Err RunLengths)
+        unfolding registered_of
+        lengths-3 e =
+            reads bytes (Err RunLengths)
+            (rw (le-leb 16 (length bytes) long, sym counts_is ∙ counted, sym whole_is ∙ complete, sym rise_is ∙ e))
 
-          pub header-passed : (r : Result Registered RegisterRefusal) → r ≡ records_from bytes → not rise ≡ false → r ≡ registered_of bytes
-          unfolding registered_of
-          header-passed r q e = rw (q, le-leb 16 (length bytes) long, passed c counted, passed w complete, passed l e)
+        pub header-passed : (r : Result Registered RegisterRefusal) → r ≡ records_from (header ++ records) → rise ≡ true → Reads bytes r
+        unfolding registered_of
+        header-passed r q e =
+            reads bytes r
+            (rw (q, together, le-leb 16 (length bytes) long, sym counts_is ∙ counted, sym whole_is ∙ complete, sym rise_is ∙ e))
 
 -- ---- records
 
-module _ (bytes : List ℕ) (units aggregates : ℕ) (u : units ≡ unit_count bytes) (a : aggregates ≡ aggregate_count bytes) where
-  pub spares-read : (s t : Bool) → s ≡ every (spare_at bytes 18 2) units → t ≡ every (spare_at bytes (16 + 4 * units + 1) 3) aggregates
-      → (s && t) ≡ (units_spare bytes && heads_spare bytes)
-  spares-read s t p q = rw (p, q, u, a)
-
-  pub fields_read : (small large : Lengths) (kinds : List (Option Kind)) (next heads : List ℕ) → small ≡ lengths_at bytes 2 → large ≡ lengths_at bytes 5
-      → kinds ≡ kinds_of bytes
-      → next ≡ sweep (field_at bytes 17) units (replicate 64 0)
-      → heads ≡ sweep (field_at bytes (16 + 4 * units)) aggregates (replicate 16 0)
+module _ (header records : List ℕ) (headed : Headed header records) where
+  pub fields_read : (units aggregates : ℕ) (small large : Lengths) (kinds : List (Option Kind)) (next heads : List ℕ) → units ≡ unit_count header
+      → aggregates ≡ aggregate_count header → small ≡ lengths_at header 2 → large ≡ lengths_at header 5 → kinds ≡ kinds_of (header ++ records)
+      → next ≡ nexts_of (header ++ records)
+      → heads ≡ heads_of (header ++ records)
       → ◌≡◌ {A = Chains}
       (record { units = units; aggregates = aggregates; small = small; large = large; kinds = kinds; next = next; heads = heads })
-      (fields_of bytes)
-  unfolding fields_of nexts_of heads_of
-  fields_read small large kinds next heads s l k n h = rw (s, l, k, n, h, u, a)
+      (fields_of (header ++ records))
+  unfolding fields_of
+  fields_read units aggregates small large kinds next heads u a s l k n h =
+      let u' = units-in header records headed in
+      let a' = aggregates-in header records headed in
+      let s' = lengths-in header records headed 2 (omega arith) in
+      let l' = lengths-in header records headed 5 (omega arith) in
+      rw (u, a, s, l, k, n, h, u', a', s', l')
 
 -- ---- refusals 4 and 5
 
-module _ (bytes : List ℕ) (chains : Chains) (read : chains ≡ fields_of bytes) (ready : Headed bytes) where
-  pub units-read : chains.units ≤ 64
-  unfolding fields_of
-  units-read = rw read ready.units
+module _ (header records : List ℕ) (headed : Headed header records) (chains : Chains) (read : chains ≡ fields_of (header ++ records)) where
+  abbrev bytes : List ℕ
+  bytes = header ++ records
 
-  pub aggregates-read : chains.aggregates ≤ 16
+  units-read : chains.units ≤ 64
   unfolding fields_of
-  aggregates-read = rw read ready.aggregates
+  units-read = rw (read, units-in header records headed) headed.units
+
+  aggregates-read : chains.aggregates ≤ 16
+  unfolding fields_of
+  aggregates-read = rw (read, aggregates-in header records headed) headed.aggregates
+
+  pub counts-read : (chains.units ≤ 64) × (chains.aggregates ≤ 16)
+  counts-read = (units-read, aggregates-read)
 
   abbrev all_known : Bool
-  all_known = (header_spare bytes && kinds_known chains.kinds chains.units) && (units_spare bytes && heads_spare bytes)
+  all_known = header_spare bytes && kinds_known chains.kinds (unit_count header) && units_spare bytes && heads_spare bytes
 
   module _ (known : Bool) (k : known ≡ all_known) where
     known_is : known ≡ fields_known bytes
     unfolding fields_known fields_of
-    known_is = k ∙ rw read
+    known_is =
+        let kinds = kinds_known chains.kinds (unit_count header) in
+        k
+        ∙ and_assoc (header_spare bytes && kinds) (units_spare bytes) (heads_spare bytes)
+        ∙ rw (read, units-in header records headed)
 
     pub read-4 : not known ≡ true → Err Record ≡ records_from bytes
     unfolding records_from
@@ -127,6 +169,9 @@ module _ (bytes : List ℕ) (chains : Chains) (read : chains ≡ fields_of bytes
 
   pub read-walkable : (inside : Bool) → inside ≡ indices_in chains → not inside ≡ false → Walkable chains
   read-walkable inside i e = record { units = units-read; aggregates = aggregates-read; inside = passed i e }
+
+-- what `records_from` needs of them
+pub ruleset records = (counts-read, read-4, read-5, read-chains, read-walkable)
 
 -- ---- refusals 6, 7 and 30
 

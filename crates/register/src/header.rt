@@ -1,5 +1,5 @@
 // The header: counts, length, run lengths.
-ghost use Rattle.std.specs.Prelude.{◌≡◌, ◌+◌, ◌≤◌, ◌<◌, length};
+ghost use Rattle.std.specs.Prelude.{◌≡◌, ◌+◌, ◌≤◌, ◌<◌, ◌++◌};
 ghost use Rattle.register.specs.Fields.{unit_count, aggregate_count, lengths_at};
 ghost use Rattle.plants.specs.Rosters.{counts_in};
 ghost use Rattle.register.specs.Rules.{whole_length, rising};
@@ -7,32 +7,29 @@ ghost use Rattle.register.specs.Registers.{lengths_rise};
 
 use plants::Lengths;
 
-pub(crate) fn unit_count(bytes: &[u8]) -> usize
-    requires { 16 ≤ length bytes.now }
-    ensures { (result ≡ unit_count bytes.now) × (result < 256) }
+pub(crate) fn unit_count(header: &[u8; 16]) -> usize
+    ensures { (result ≡ unit_count header.now) × (result < 256) }
 {
-    usize::from(bytes[0])
+    usize::from(header[0])
 }
 
-pub(crate) fn aggregate_count(bytes: &[u8]) -> usize
-    requires { 16 ≤ length bytes.now }
-    ensures { (result ≡ aggregate_count bytes.now) × (result < 256) }
+pub(crate) fn aggregate_count(header: &[u8; 16]) -> usize
+    ensures { (result ≡ aggregate_count header.now) × (result < 256) }
 {
-    usize::from(bytes[1])
+    usize::from(header[1])
 }
 
-pub(crate) fn counts_known(bytes: &[u8]) -> bool
-    requires { 16 ≤ length bytes.now }
-    ensures { result ≡ counts_in (unit_count bytes.now) (aggregate_count bytes.now) }
+pub(crate) fn counts_known(header: &[u8; 16]) -> bool
+    ensures { result ≡ counts_in (unit_count header.now) (aggregate_count header.now) }
 {
-    plants::counts_in(unit_count(bytes), aggregate_count(bytes))
+    plants::counts_in(unit_count(header), aggregate_count(header))
 }
 
-pub(crate) fn is_whole(bytes: &[u8]) -> bool
-    requires { 16 ≤ length bytes.now }
-    ensures { result ≡ whole_length bytes.now }
+// Whether as many bytes of records follow as the header says.
+pub(crate) fn is_whole(header: &[u8; 16], records: &[u8]) -> bool
+    ensures { result ≡ whole_length (header.now ++ records.now) }
 {
-    bytes.len() == 16 + 4 * unit_count(bytes) + 4 * aggregate_count(bytes)
+    records.len() == 4 * unit_count(header) + 4 * aggregate_count(header)
 }
 
 fn rises(l: Lengths) -> bool
@@ -41,21 +38,20 @@ fn rises(l: Lengths) -> bool
     2 <= l.not_responding && l.not_responding < l.pending && l.pending < l.declaration
 }
 
-pub(crate) fn lengths_at(bytes: &[u8], at: usize) -> Lengths
-    requires { at + 3 ≤ length bytes.now }
-    ensures { result ≡ lengths_at bytes.now at }
+pub(crate) fn lengths_at(header: &[u8; 16], at: usize) -> Lengths
+    requires { at ≤ 13 }
+    ensures { result ≡ lengths_at header.now at }
 {
     Lengths {
-        not_responding: bytes[at],
-        pending: bytes[at + 1],
-        declaration: bytes[at + 2],
+        not_responding: header[at],
+        pending: header[at + 1],
+        declaration: header[at + 2],
     }
 }
 
 #[tactic(auto, unfolding(crate::specs::Registers::lengths_rise))]
-pub(crate) fn lengths_rise(bytes: &[u8]) -> bool
-    requires { 16 ≤ length bytes.now }
-    ensures { result ≡ lengths_rise bytes.now }
+pub(crate) fn lengths_rise(header: &[u8; 16]) -> bool
+    ensures { result ≡ lengths_rise header.now }
 {
-    rises(lengths_at(bytes, 2)) && rises(lengths_at(bytes, 5))
+    rises(lengths_at(header, 2)) && rises(lengths_at(header, 5))
 }

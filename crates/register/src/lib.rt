@@ -4,15 +4,14 @@
 mod header;
 mod records;
 
-ghost use Rattle.std.specs.Prelude.{◌≡◌};
-ghost use Rattle.chains.specs.Rules.{Walkable};
+ghost use Rattle.std.specs.Prelude.{◌≡◌, ◌++◌};
 ghost use Rattle.chains.specs.Walks.{roster_from};
 ghost use Rattle.register.specs.Registers.{register_number, chained_from, records_from, Reads};
-ghost use Rattle.register.specs.Headers.{Headed};
 
-use chains::Chains;
-use chains::visits::Walked;
+use chains::visits::{Walk, Walked};
+use chains::{Chains, ChainsInRange};
 use plants::Roster;
+use records::Register;
 
 // The rules that a register can fail. 01 gives each its number, and 02, 2026-01, the last one's.
 #[derive(Clone, Copy, Debug, PartialEq, Eq, Hash)]
@@ -57,75 +56,72 @@ pub struct Registered {
 fn laid_out(chains: Chains, walked: Walked) -> Roster
     ensures { result ≡ roster_from chains walked }
 {
-    let walk = walked.walk;
-    let kinds = chains.kinds;
-    let chained = walk.met;
-    let members = walk.members;
-    let stretches = walked.stretches;
+    let Walk { met, members, .. } = walked.walk;
+    let Walked { stretches, .. } = walked;
+    let Chains { kinds, .. } = chains;
     Roster {
         units: chains.units,
         aggregates: chains.aggregates,
         small: chains.small,
         large: chains.large,
         kinds,
-        chained,
+        chained: met,
         members,
         stretches,
     }
 }
 
 // 6, 7 and 30, or the roster that the chains give.
-fn chained_from(chains: Chains) -> Result<Registered, RegisterRefusal>
-    requires { Walkable chains }
-    ensures { result ≡ chained_from chains }
+fn chained_from(tested: ChainsInRange) -> Result<Registered, RegisterRefusal>
+    ensures { result ≡ chained_from tested.chains }
 {
-    let walked = chains::visits::walk_chains(chains);
+    let walked = tested.walk_chains();
     let walk = walked.walk;
     if walk.twice {
         return Err(RegisterRefusal::MetTwice);
     }
-    if !chains::rest_ends(chains, walk.met) {
+    if !chains::rest_ends(tested.chains, walk.met) {
         return Err(RegisterRefusal::Unmet);
     }
-    if !chains::members_scheduled(chains, walk.met) {
+    if !chains::members_scheduled(tested.chains, walk.met) {
         return Err(RegisterRefusal::SemiScheduledMember);
     }
     Ok(Registered {
-        visits: walk.steps,
-        roster: laid_out(chains, walked),
+        visits: u32::from(walk.steps),
+        roster: laid_out(tested.chains, walked),
     })
 }
 
 // 4 and 5, each over the whole register, and what follows.
-fn records_from(bytes: &[u8]) -> Result<Registered, RegisterRefusal>
-    requires { Headed bytes.now }
-    ensures { result ≡ records_from bytes.now }
+#[tactic(auto, using(crate::proofs::Readings::records))]
+fn records_from(register: Register) -> Result<Registered, RegisterRefusal>
+    ensures { result ≡ records_from (register.entry.header.now ++ register.entry.records.now) }
 {
-    let chains = records::read_fields(bytes);
-    if !records::fields_known(bytes, chains) {
+    let chains = register.read_fields();
+    if !register.fields_known(chains.kinds) {
         return Err(RegisterRefusal::Record);
     }
     if !chains::indices_in(chains) {
         return Err(RegisterRefusal::Index);
     }
-    chained_from(chains)
+    chained_from(ChainsInRange { chains })
 }
 
 // Any bytes can be sent. A refused register loads nothing.
 pub fn read_register(bytes: &[u8]) -> Result<Registered, RegisterRefusal>
     ensures { Reads bytes.now result }
 {
-    if bytes.len() < 16 {
+    let Some((header, records)) = bytes.split_first_chunk::<16>() else {
         return Err(RegisterRefusal::Length);
-    }
-    if !header::counts_known(bytes) {
+    };
+    if !header::counts_known(header) {
         return Err(RegisterRefusal::Counts);
     }
-    if !header::is_whole(bytes) {
+    if !header::is_whole(header, records) {
         return Err(RegisterRefusal::Length);
     }
-    if !header::lengths_rise(bytes) {
+    if !header::lengths_rise(header) {
         return Err(RegisterRefusal::RunLengths);
     }
-    records_from(bytes)
+    records_from(Register { header, records })
 }

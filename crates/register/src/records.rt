@@ -1,103 +1,110 @@
 // The records of units and of heads, 4 bytes each.
-ghost use Rattle.std.specs.Prelude.{◌≡◌, ◌&&◌, ◌+◌, ◌*◌, ◌≤◌, ◌<◌, length, replicate, cond, ltb, None};
-ghost use Rattle.trace.specs.Sweeps.{every, sweep};
-ghost use Rattle.register.specs.Fields.{unit_count, field_at, kind_in, kinds_of, fields_of};
-ghost use Rattle.register.specs.Rules.{zero_at, spare_at, header_spare, units_spare, heads_spare};
+ghost use Rattle.std.specs.Prelude.{◌≡◌, ◌&&◌, ◌-◌, ◌≤◌, ◌<◌, [], length, take, drop, replicate, get_or, cond, ltb, eqb, None};
+ghost use Rattle.std.specs.List.{list_all};
+ghost use Rattle.trace.specs.Sweeps.{sweep};
+ghost use Rattle.kinds.specs.Kinds.{kind_of};
 ghost use Rattle.plants.specs.Rosters.{kinds_known};
-ghost use Rattle.register.specs.Headers.{Headed};
+ghost use Rattle.register.specs.Fields.{unit_count, aggregate_count, fields_of};
+ghost use Rattle.register.specs.Rules.{header_spare, units_spare, heads_spare};
+ghost use Rattle.register.specs.Headers.{Headed, records_in, is_zero};
 
 use crate::header;
 use chains::Chains;
 use kinds::Kind;
 use std::array;
 
-// One byte of record i, the byte at `at` in the first, and 0 past the last record.
-fn field(bytes: &[u8], at: usize, count: usize, i: usize) -> u8
-    requires { (count ≤ 64) × (at + 4 * count ≤ length bytes.now + 3) }
-    ensures { result ≡ cond (ltb i count) (field_at bytes.now at i) 0 }
+// The kind of unit i, and none past the last unit.
+fn kind(units: &[[u8; 4]], i: usize) -> Option<Kind>
+    ensures { result ≡ cond (ltb i (length units.now)) (kind_of (get_or (get_or units.now i []) 0 0)) None }
 {
-    if i < count { bytes[at + 4 * i] } else { 0 }
+    let record = units.get(i)?;
+    kinds::kind_of(record[0])
+}
+
+fn kinds(units: &[[u8; 4]]) -> [Option<Kind>; 64]
+    requires { length units.now ≤ 64 }
+    ensures { result ≡ sweep (λ i. kind_of (get_or (get_or units.now i []) 0 0)) (length units.now) (replicate 64 None) }
+{
+    array::from_fn(|i| kind(units, i))
+}
+
+// One byte of record i, and 0 past the last record.
+fn field(records: &[[u8; 4]], i: usize, at: usize) -> u8
+    requires { at < 4 }
+    ensures { result ≡ cond (ltb i (length records.now)) (get_or (get_or records.now i []) at 0) 0 }
+{
+    records.get(i).map_or(0, |record| record[at])
 }
 
 // That byte of each record.
-fn fields<const N: usize>(bytes: &[u8], at: usize, count: usize) -> [u8; N]
-    requires { (count ≤ N) × (count ≤ 64) × (at + 4 * count ≤ length bytes.now + 3) }
-    ensures { result ≡ sweep (field_at bytes.now at) count (replicate N 0) }
+fn fields<const N: usize>(records: &[[u8; 4]], at: usize) -> [u8; N]
+    requires { (at < 4) × (length records.now ≤ N) }
+    ensures { result ≡ sweep (λ i. get_or (get_or records.now i []) at 0) (length records.now) (replicate N 0) }
 {
-    array::from_fn(|i| field(bytes, at, count, i))
+    array::from_fn(|i| field(records, i, at))
 }
 
-// The kind of unit i, and none past the last unit.
-fn kind(bytes: &[u8], units: usize, i: usize) -> Option<Kind>
-    requires { (units ≤ 64) × (16 + 4 * units ≤ length bytes.now) }
-    ensures { result ≡ cond (ltb i units) (kind_in bytes.now i) None }
+fn zeros(bytes: &[u8]) -> bool
+    ensures { result ≡ list_all is_zero bytes.now }
 {
-    if i < units {
-        kinds::kind_of(bytes[16 + 4 * i])
-    } else {
-        None
+    bytes.iter().all(|byte| *byte == 0)
+}
+
+// The spare bytes of each record: those from `at` on.
+fn spares(records: &[[u8; 4]], at: usize) -> bool
+    requires { at ≤ 4 }
+    ensures { result ≡ list_all (λ r. list_all is_zero (take (4 - at) (drop at r))) records.now }
+{
+    records.iter().all(|record| zeros(&record[at..]))
+}
+
+// A register that has passed 1 and 2: the header, and as many records as it says, those of units first.
+#[derive(Drop)]
+pub(crate) struct Register<'a> {
+    pub header: &'a [u8; 16],
+    pub records: &'a [u8],
+    ghost headed: { Headed header.now records.now },
+}
+
+impl<'a> Register<'a> {
+    ghost use Rattle.register.specs.Records.{bytes_of};
+
+    // The records of units, and those of heads.
+    fn units_and_heads(&self) -> (&'a [[u8; 4]], &'a [[u8; 4]])
+        ensures units { (result.0.now ≡ take (unit_count self.now.header.now) (records_in self.now.records.now))
+            × (length result.0.now ≡ unit_count self.now.header.now) }
+        ensures heads { (result.1.now ≡ drop (unit_count self.now.header.now) (records_in self.now.records.now))
+            × (length result.1.now ≡ aggregate_count self.now.header.now) }
+    {
+        let units = header::unit_count(self.header);
+        self.records.as_chunks::<4>().0.split_at(units)
     }
-}
 
-#[tactic(auto, unfolding(crate::specs::Fields::kinds_of))]
-fn kinds(bytes: &[u8], units: usize) -> [Option<Kind>; 64]
-    requires headed { Headed bytes.now }
-    requires counted { units ≡ unit_count bytes.now }
-    ensures { result ≡ kinds_of bytes.now }
-{
-    array::from_fn(|i| kind(bytes, units, i))
-}
-
-pub(crate) fn read_fields(bytes: &[u8]) -> Chains
-    requires { Headed bytes.now }
-    ensures { result ≡ fields_of bytes.now }
-{
-    let units = header::unit_count(bytes);
-    let aggregates = header::aggregate_count(bytes);
-    let kinds = kinds(bytes, units);
-    let next = fields(bytes, 17, units);
-    let heads = fields(bytes, 16 + 4 * units, aggregates);
-    Chains {
-        units,
-        aggregates,
-        small: header::lengths_at(bytes, 2),
-        large: header::lengths_at(bytes, 5),
-        kinds,
-        next,
-        heads,
+    pub(crate) fn read_fields(&self) -> Chains
+        ensures { result ≡ fields_of (bytes_of self.now) }
+    {
+        let (units, heads) = self.units_and_heads();
+        Chains {
+            units: units.len(),
+            aggregates: heads.len(),
+            small: header::lengths_at(self.header, 2),
+            large: header::lengths_at(self.header, 5),
+            kinds: kinds(units),
+            next: fields(units, 1),
+            heads: fields(heads, 0),
+        }
     }
-}
 
-fn zeros(bytes: &[u8], at: usize, count: usize) -> bool
-    requires { at + count ≤ length bytes.now }
-    ensures { result ≡ every (zero_at bytes.now at) count }
-{
-    bytes[at..at + count].iter().all(|byte| *byte == 0)
-}
-
-// The spare bytes of records of 4 bytes: `size` of each, from `at` on in the first.
-fn spares(bytes: &[u8], at: usize, size: usize, count: usize) -> bool
-    requires { (count ≤ 64) × (at + 4 * count + size ≤ length bytes.now + 4) }
-    ensures { result ≡ every (spare_at bytes.now at size) count }
-{
-    (0..count).all(|i| zeros(bytes, at + 4 * i, size))
-}
-
-// The spare bytes of every unit record and of every head.
-fn spares_zero(bytes: &[u8]) -> bool
-    requires { Headed bytes.now }
-    ensures { result ≡ (units_spare bytes.now && heads_spare bytes.now) }
-{
-    let units = header::unit_count(bytes);
-    let aggregates = header::aggregate_count(bytes);
-    spares(bytes, 18, 2, units) && spares(bytes, 16 + 4 * units + 1, 3, aggregates)
-}
-
-pub(crate) fn fields_known(bytes: &[u8], chains: Chains) -> bool
-    requires headed { Headed bytes.now }
-    requires units_bound { chains.units ≤ 64 }
-    ensures { result ≡ ((header_spare bytes.now && kinds_known chains.kinds chains.units)
-        && (units_spare bytes.now && heads_spare bytes.now)) }
-{
-    zeros(bytes, 8, 8) && plants::known_kinds(chains.kinds, chains.units) && spares_zero(bytes)
+    // Every spare byte is 0, and every kind is known. `kinds` are those of `read_fields`, which are read once.
+    pub(crate) fn fields_known(&self, kinds: [Option<Kind>; 64]) -> bool
+        ensures { let bytes = bytes_of self.now in
+            result ≡ (header_spare bytes && kinds_known kinds (unit_count self.now.header.now) && units_spare bytes && heads_spare bytes) }
+    {
+        let header = self.header;
+        let (units, heads) = self.units_and_heads();
+        zeros(&header[8..])
+            && plants::known_kinds(&kinds, units.len())
+            && spares(units, 2)
+            && spares(heads, 1)
+    }
 }

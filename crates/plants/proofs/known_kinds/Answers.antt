@@ -11,5 +11,5 @@ pub returns : goal.returns
 unfolding kinds_known
 returns c =
     let test : Option Kind → Bool = is_some in
-    all_from_yields_List test _ _ _ c.all.ensures.ran (YieldsList-from_slice (take c.args.units c.args.kinds) cc) (λ x b q k. search (rules, tests))
-    ∙ every_take test _ c.args.kinds None c.args.units (search rules) (λ i l. refl)
+    all_from_yields_List test _ _ _ c.all.ensures.ran (YieldsList-from_slice (take c.args.units c.args.kinds.now) cc) (λ x b q k. search (rules, tests))
+    ∙ every_take test _ c.args.kinds.now None c.args.units (search rules) (λ i l. refl)

@@ -9,5 +9,5 @@ pub returns : goal.returns
 unfolding places_in
 returns c =
     let test : ℕ → Bool = λ place. ltb place c.args.units in
-    all_from_yields_List test _ _ _ c.all.ensures.ran (YieldsList-from_slice c.args.members cc) (λ x b q k. search (rules, tests))
-    ∙ every_list test _ c.args.members 0 64 (search rules) (λ i l. refl)
+    all_from_yields_List test _ _ _ c.all.ensures.ran (YieldsList-from_slice c.args.members.now cc) (λ x b q k. search (rules, tests))
+    ∙ every_list test _ c.args.members.now 0 64 (search rules) (λ i l. refl)

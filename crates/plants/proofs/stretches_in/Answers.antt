@@ -8,6 +8,6 @@ use Rattle.plants.proofs.stretches_in.Goals as goal
 pub returns : goal.returns
 unfolding stretches_in
 returns c =
-    all_from_yields_List stretch_in _ _ _ c.all.ensures.ran (YieldsList-from_slice (take c.args.aggregates c.args.stretches) cc)
+    all_from_yields_List stretch_in _ _ _ c.all.ensures.ran (YieldsList-from_slice (take c.args.aggregates c.args.stretches.now) cc)
     (λ x b q k. search (rules, tests))
-    ∙ every_take stretch_in _ c.args.stretches no_stretch c.args.aggregates (search rules) (λ i l. refl)
+    ∙ every_take stretch_in _ c.args.stretches.now no_stretch c.args.aggregates (search rules) (λ i l. refl)
