@@ -103,3 +103,5 @@ no-sums-small = omega arith
 pub aggregate-small : (s : Sums) → SmallSums 130000000 s → SmallBasis (aggregate_basis s)
 unfolding aggregate_basis
 aggregate-small s b = omega (arith, rate-small (way_of s) b.supply, rate-small (opposite (way_of s)) b.loads)
+
+pub ruleset sizes = (view-capability-small, aggregate-small)

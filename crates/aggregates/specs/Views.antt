@@ -1,5 +1,5 @@
--- A member as its aggregate's sums take it: its readable line in whole kW and its kept line, or none where its line is unreadable. How the code comes to the sums: nobody has to believe this.
--- `proofs/Views.antt` has that a member's view adds what the member does.
+-- A member as its aggregate's sums take it: its readable line in whole kW and its kept line, or none where its line is unreadable. How the
+-- code comes to the sums: nobody has to believe this. `proofs/Views.antt` has that a member's view adds what the member does.
 use Rattle.std.specs.Prelude.{not, ◌&&◌, ◌||◌, List, [], ◌∷◌, Option, Some, None, ◌≤◌, min, eqb, nat_abs}
 use Rattle.kinds.specs.declared.Kind.{Kind}
 use Rattle.telemetry.specs.Lines.{power_of}

@@ -43,6 +43,7 @@ pub fn view_of(kind: Option<Kind>, line: Measured, kept: Option<Kept>) -> View
 {
     let Measured { fields, measures } = line;
     let unit = measures.capability;
+    // Rates by `as`, since each is at most a bid rate, a u32: `try_from` would have a case that cannot be.
     View {
         load: is_load(kind),
         monitored: fields.mode != 0,
@@ -92,7 +93,8 @@ pub struct Present {
     pub power: i64,
 }
 
-// Sums over kept lines: signed MWB, and FCR and FCL.
+// Sums over kept lines: signed MWB, and FCR and FCL, in 64 bits as a basis has them. `Target` of `targets` has the widths of a line, since a
+// state holds it.
 #[derive(Clone, Copy, Debug, Default, PartialEq, Eq, Hash)]
 pub struct KeptSums {
     pub target: i64,
@@ -167,7 +169,7 @@ impl KeptSums {
     }
 }
 
-// Before the first member.
+// Before the first member: no zeros alone, which a derive would give.
 impl Default for Sums {
     ghost is_default = { λ sums. sums ≡ no_sums };
 
@@ -188,7 +190,7 @@ impl Default for Sums {
 }
 
 impl Sums {
-    #[tactic(auto, unfolding(crate::specs::Views::add_readable_view))]
+    #[tactic(auto, using(crate::proofs::Small::sizes), unfolding(crate::specs::Views::add_readable_view))]
     fn plus_readable(self, member: View) -> Sums
         requires { SmallSums (2 ^ 59) self × SmallView member }
         ensures { result ≡ add_readable_view self member }
@@ -248,7 +250,7 @@ impl Sums {
     }
 
     // The assessment of the aggregate whose members these are.
-    #[tactic(auto, unfolding(crate::specs::Aggregates::sums_assessment))]
+    #[tactic(auto, using(crate::proofs::Small::sizes), unfolding(crate::specs::Aggregates::sums_assessment))]
     pub fn assess(self) -> Assessment
         requires { SmallSums 130000000 self }
         ensures { result ≡ sums_assessment self }

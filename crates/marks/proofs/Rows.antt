@@ -4,7 +4,8 @@ use mathlib.Core.Bool.{false}
 use Prim.Native.Nat.{ℕ}
 use lib.IntN.{ℤ, pos, negsuc}
 use Rattle.signed.specs.Floors.{floored}
-use Rattle.telemetry.specs.Lines.{is_semi_scheduled, power_of}
+use Rattle.kinds.specs.Kinds.{is_semi_scheduled}
+use Rattle.telemetry.specs.Lines.{power_of}
 use Rattle.telemetry.specs.Ranges.{is_unidirectional}
 use Rattle.telemetry.specs.declared.Fields.{Fields}
 use Rattle.telemetry.specs.declared.Reading.TheVariants.{Good}

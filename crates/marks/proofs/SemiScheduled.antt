@@ -12,7 +12,8 @@ use borrow.Author.Tests.{le-ltb}
 use lib.IntN.{pos}
 use lib.Signed.{lt_z}
 use Rattle.signed.specs.Floors.{floored}
-use Rattle.telemetry.specs.Lines.{is_semi_scheduled, power_of}
+use Rattle.kinds.specs.Kinds.{is_semi_scheduled}
+use Rattle.telemetry.specs.Lines.{power_of}
 use Rattle.telemetry.specs.declared.Fields.{Fields}
 use Rattle.marks.specs.Errors.{error_of, exceeds}
 use Rattle.marks.specs.Assessments.{is_missing, is_known, mark_of, judged, without, unit_basis, known_assessment, readable_assessment}

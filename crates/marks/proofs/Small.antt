@@ -19,6 +19,7 @@ use Rattle.telemetry.specs.declared.Reading.TheVariants.{Good, Substituted, Miss
 use Rattle.trace.proofs.Tests.{and_l, and_r}
 use Rattle.floats.proofs.Floats.{kilowatts-size}
 use Rattle.telemetry.proofs.Clauses.{target_small, availability-small, raise-small, lower-small}
+use Rattle.triggers.proofs.Thresholds.{small-bounded as trigger-bounded}
 use Rattle.triggers.specs.Triggers.{direction_of, rate_of, capability_of, unit_capability}
 use Rattle.marks.specs.KeptLines.{kept_line, kept_from, kept_bounded}
 use Rattle.marks.specs.Errors.{over_of, under_of, error_of}
@@ -115,3 +116,6 @@ error-size b s =
       size-minus lowest b.power,
       size-minus b.target b.down,
     )
+
+-- what the casts of an assessment go by
+pub ruleset sizes = (error-size, trigger-bounded)

@@ -3,7 +3,8 @@ use Rattle.std.specs.Prelude.{Bool, true, false, cond, not, ◌&&◌, ℕ, eqb, 
 use Rattle.kinds.specs.declared.Kind.{Kind}
 use Rattle.kinds.specs.declared.Kind.TheVariants.{Generating, Load, Bidirectional, SemiScheduled}
 use Rattle.floats.specs.Kilowatts.{kilowatts_of}
-use Rattle.telemetry.specs.Lines.{is_semi_scheduled, power_of}
+use Rattle.kinds.specs.Kinds.{is_semi_scheduled}
+use Rattle.telemetry.specs.Lines.{power_of}
 use Rattle.telemetry.specs.Ranges.{is_unidirectional}
 use Rattle.telemetry.specs.declared.Fields.{Fields}
 use Rattle.telemetry.specs.declared.Reading.{Reading}

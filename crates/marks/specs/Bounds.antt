@@ -1,5 +1,5 @@
--- How large the numbers of a line, of a kept line and of a basis are. A readable line's are within 01's bounds, and an aggregate has at most 65
--- of them.
+-- How large the numbers of a line, of a kept line and of a basis are. A readable line's are within 01's bounds, and an aggregate has at most 64
+-- of them; the bounds have room for 65.
 use Rattle.std.specs.Prelude.{Option, Some, None, ◌≤◌, nat_abs}
 use Rattle.telemetry.specs.declared.Fields.{Fields}
 use Rattle.marks.specs.declared.Kept.{Kept}

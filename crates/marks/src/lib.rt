@@ -19,7 +19,8 @@ use triggers::Capability;
 
 // ---- kept lines
 
-// What the interval before left of a unit's readable line. The cap flag plays a part for kind 4 alone.
+// What the interval before left of a unit's readable line. The cap flag plays a part for kind 4 alone. A state with any numbers can be sent, so
+// that they are within 01's bounds is no invariant of the type, but asked by the functions that add them up.
 #[derive(Clone, Copy, Debug, PartialEq, Eq, Hash)]
 pub struct Kept {
     pub capped: bool,
@@ -133,7 +134,7 @@ fn mark_of(error: i64, small: u64, large: u64, doubtful: bool) -> Mark
     }
 }
 
-#[tactic(auto, unfolding(crate::specs::Assessments::judged))]
+#[tactic(auto, using(std::proofs::lemmas::Int::ints, crate::proofs::Small::sizes), unfolding(crate::specs::Assessments::judged))]
 pub fn judge(b: Basis) -> Assessment
     requires { SmallBasis b }
     ensures { result ≡ judged b }
@@ -143,6 +144,7 @@ pub fn judge(b: Basis) -> Assessment
     let large = triggers::trigger_of(5, 400, b.availability, b.rate);
     let counted = signed::floored(b.capped, error);
     let level = signed::floored(b.unidirectional, b.power);
+    // By `as`, since each fits: `try_from` would have a case that cannot be.
     Assessment {
         mark: mark_of(counted, small, large, b.doubtful),
         error: error as i32,
@@ -262,14 +264,14 @@ fn unit_rate(target: i32, measures: Measures) -> u64
 fn is_capped(kind: Option<Kind>, flag: bool) -> bool
     ensures { result ≡ is_capped kind flag }
 {
-    matches!(kind, Some(Kind::SemiScheduled)) && flag
+    kinds::is_semi_scheduled(kind) && flag
 }
 
-// A semi-scheduled unit whose cap flag is 0.
+// A semi-scheduled unit whose cap flag is 0. This is not the opposite of the test before: a unit of another kind passes neither.
 fn is_uncapped(kind: Option<Kind>, flag: bool) -> bool
     ensures { result ≡ is_uncapped kind flag }
 {
-    matches!(kind, Some(Kind::SemiScheduled)) && !flag
+    kinds::is_semi_scheduled(kind) && !flag
 }
 
 #[tactic(auto, unfolding(crate::specs::Assessments::unit_basis, crate::specs::Measures::measures_of))]
@@ -303,7 +305,8 @@ fn assess_known(kind: Option<Kind>, line: Measured, kept: Kept) -> Assessment
     }
 }
 
-// A unit whose line is readable.
+// A unit whose line is readable. Kind, line and kept line are no struct: here and for an aggregate's sums the kept line may be missing, in
+// `assess_known` it is there, so they would be two structs.
 #[tactic(auto, unfolding(crate::specs::Assessments::readable_assessment))]
 pub fn assess_readable(
     kind: Option<Kind>,
@@ -353,7 +356,8 @@ impl From<Mark> for u8 {
     }
 }
 
-#[tactic(auto, unfolding(crate::specs::Hosts::second_mark))]
+// The number, which `Hosts` of the definitions speaks of.
+#[tactic(auto, using(crate::proofs::Small::line_small, crate::proofs::Small::kept_small), unfolding(crate::specs::Hosts::second_mark))]
 fn second_mark(kind: Option<Kind>, earlier: &[u8], later: &[u8]) -> u8
     ensures { result ≡ second_mark kind earlier.now later.now }
 {
@@ -364,6 +368,7 @@ fn second_mark(kind: Option<Kind>, earlier: &[u8], later: &[u8]) -> u8
 
 // The mark, as 01 numbers it, for the second of two successive lines of a unit in no chain; 6 for an unknown kind or a line
 // that is not 40 bytes. The C interface takes any number as a kind and any line, and so has a number for those too.
+// That of a known kind fits, and is narrowed by `as`.
 #[tactic(auto, unfolding(crate::specs::Hosts::unit_mark_of))]
 pub fn unit_mark(kind: u32, earlier: &[u8], later: &[u8]) -> u32
     ensures { result ≡ unit_mark_of kind earlier.now later.now }

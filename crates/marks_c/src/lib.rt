@@ -4,8 +4,8 @@
 ghost use Rattle.std.specs.Prelude.{◌≡◌};
 ghost use Rattle.marks.specs.Hosts.{unit_mark_of};
 
-// The mark, as 01 numbers it, for the second of two successive lines of a unit in no chain; 6 for an unknown kind or a line
-// that is not 40 bytes.
+// The mark, as 01 numbers it, for the second of two successive lines of a unit in no chain; 6 for an unknown kind (the C interface takes any
+// number) or a line that is not 40 bytes.
 #[unsafe(no_mangle)]
 pub extern "C" fn unit_mark(kind: u32, earlier: &[u8], later: &[u8]) -> u32
     ensures { result ≡ unit_mark_of kind earlier.now later.now }

@@ -1,5 +1,5 @@
 -- Lists of calls (01, "Whole lists of calls"): the first call is given a state, every later one the state that the call before it
--- returned, accepted or refused. Each step is by the definitions that the calls' contracts cite.
+-- left, accepted or refused. Each step is by the definitions that the calls' contracts cite.
 use Rattle.std.specs.Prelude.{List, ℕ, length, Result, Ok, Err}
 use Rattle.trace.specs.Lists.{fold, outcomes}
 use Rattle.targets.specs.declared.Target.{Target}
@@ -32,7 +32,7 @@ reply (ask look) q t = looked q
 reply (ask reason) q t = reasoned q.reason
 reply (ask target) q t = targeted t
 
--- the state after a call: the one that it returns, or the one that it was given where it is refused or asks
+-- the state after a call: the one that it leaves, or the one that it was lent where it is refused or asks
 abbrev pub next_by : Operator → Monitor → ℕ → Monitor
 next_by (declare level) m p = state_after m (operated_of (declare level) m p)
 next_by reinstate m p = state_after m (operated_of reinstate m p)

@@ -6,7 +6,7 @@ use native.Mathlib.Omega.{arith}
 use borrow.Author.Tests.{leb-true, le-leb, lt-leb, ltb-true, ltb-false}
 use lib.Dec.{leb, ltb}
 use Rattle.trace.proofs.Tests.{and_l, and_r}
-use Rattle.std.specs.Prelude.{Option, Some, None, SomeIff, Ok, Err}
+use Rattle.std.specs.Prelude.{Option, Some, None, SomeIff, Result, Ok, Err}
 use Rattle.std.specs.Option.{ok_or}
 use Rattle.plants.specs.Plants.{Plant, place}
 use Rattle.plants.specs.Rosters.{held}
@@ -78,9 +78,9 @@ module _ (m : Monitor) (p : ℕ) where
 
   -- ---- and what its callers know
 
-  pub found : {at : Located} → locate_of m p ≡ Ok at → Found m p at
+  pub found : {at : Located} {r : Result Located CallRefusal} → r ≡ locate_of m p → r ≡ Ok at → Found m p at
   unfolding locate_of plant_in
-  found {at} e = go (sound_of m) (named (plant_in m) p) refl refl e
+  found {at} is e = go (sound_of m) (named (plant_in m) p) refl refl (sym is ∙ e)
     where
       here : sound_of m ≡ true → named (plant_in m) p ≡ true → (x : Located) → x ≡ record { roster = roster_in m; place = place p } → Found m p x
       here s n x is =
@@ -102,15 +102,16 @@ module _ (m : Monitor) (p : ℕ) where
       go false n s t is = cc
 
   -- what is permitted of it is the verdict
-  pub judged : {at : Located} → locate_of m p ≡ Ok at → (op : Operator)
+  pub judged : {at : Located} → Found m p at → (op : Operator)
       → operator_verdict op m p ≡ permit (held at.roster) at.place op (point_at m at.place)
   unfolding operator_verdict plant_in
-  judged e op = let f = found e in rw (f.sound, f.named, f.roster, f.place)
+  judged f op = rw (f.sound, f.named, f.roster, f.place)
 
   -- and where it was not found, the refusal is
-  pub unfound : {refusal : CallRefusal} → locate_of m p ≡ Err refusal → (op : Operator) → operator_verdict op m p ≡ Err refusal
+  pub unfound : {refusal : CallRefusal} {r : Result Located CallRefusal} → r ≡ locate_of m p → r ≡ Err refusal → (op : Operator)
+      → operator_verdict op m p ≡ Err refusal
   unfolding operator_verdict locate_of
-  unfound {refusal} e op = go (sound_of m) (named (plant_in m) p) _ _ e
+  unfound {refusal} is e op = go (sound_of m) (named (plant_in m) p) _ _ (sym is ∙ e)
     where
       go : (s n : Bool) (at : Located) (v : Verdict) → cond s (cond n (Ok at) (Err NoPoint)) (Err NoRegister) ≡ Err refusal
           → cond s (cond n v (Err NoPoint)) (Err NoRegister) ≡ Err refusal
@@ -119,9 +120,9 @@ module _ (m : Monitor) (p : ℕ) where
       go false n at v is = cc
 
   -- which aggregate's point it is
-  pub aggregate-of : {at : Located} → locate_of m p ≡ Ok at → aggregate_at (plant_in m) (place p) ≡ at.place - at.roster.units
+  pub aggregate-of : {at : Located} → Found m p at → aggregate_at (plant_in m) (place p) ≡ at.place - at.roster.units
   unfolding plant_in
-  aggregate-of e = let f = found e in rw (f.roster, f.place)
+  aggregate-of f = rw (f.roster, f.place)
 
 -- which aggregate a place is that of, by a subtraction that may fail
 module _ (roster : Roster) (i : ℕ) where

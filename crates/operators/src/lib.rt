@@ -14,7 +14,7 @@ use points::{Point, Reason};
 use targets::Target;
 
 // A point that a state has: the roster that is loaded, and the point's place, its number less one.
-#[derive(Clone, Copy)]
+#[derive(Clone, Copy, Debug, PartialEq, Eq, Hash)]
 struct Located {
     roster: Roster,
     place: usize,
@@ -32,7 +32,7 @@ impl Located {
     }
 }
 
-// 10: a point from 1 to n+m.
+// 10: a point from 1 to n+m. By `as`, as below: std has no `From` of a u32 for a usize, and `try_from` would have a case that cannot be.
 fn is_named(units: usize, aggregates: usize, point: u32) -> bool
     requires { (units ≤ 64) × (aggregates ≤ 16) }
     ensures { result ≡ (leb 1 point && leb point (units + aggregates)) }
@@ -88,47 +88,50 @@ fn permit_declared(refusal: CallRefusal, q: Point) -> Result<(), CallRefusal>
 }
 
 #[tactic(auto, unfolding(crate::specs::Operators::stored))]
-fn store(mut m: Monitor, place: usize, q: Point) -> Monitor
+fn store(m: &mut Monitor, place: usize, q: Point)
     requires { place < 80 }
-    ensures { result ≡ stored m place q }
+    ensures { m.new ≡ stored m.old place q }
 {
     m.points[place] = q;
-    m
 }
 
+// ---- the calls: each takes a state and a point's number, as the rules have it, of which `locate` makes a `Located`
+
 // Declares a point at a level. Refused by 20, 10, 11 or 22.
-pub fn declare(m: Monitor, point: u32, level: i32) -> Result<Monitor, CallRefusal>
-    ensures { Answered (declare_of m point level) (operator_refusal (declare level) m point) result }
+pub fn declare(m: &mut Monitor, point: u32, level: i32) -> Result<(), CallRefusal>
+    ensures { Answered (declare_of m.old point level) (operator_refusal (declare level) m.old point) m.old result m.new }
 {
-    let located = locate(&m, point)?;
+    let located = locate(m, point)?;
     let q = m.points[located.place];
     permit_declare(located.is_unidirectional(), level, q)?;
-    Ok(store(m, located.place, q.declare(level, Reason::ByOperator)))
+    store(m, located.place, q.declare(level, Reason::ByOperator));
+    Ok(())
 }
 
 // Reinstates a declared point. Refused by 20, 10 or 23.
-pub fn reinstate(m: Monitor, point: u32) -> Result<Monitor, CallRefusal>
-    ensures { Answered (reinstate_of m point) (operator_refusal reinstate m point) result }
+pub fn reinstate(m: &mut Monitor, point: u32) -> Result<(), CallRefusal>
+    ensures { Answered (reinstate_of m.old point) (operator_refusal reinstate m.old point) m.old result m.new }
 {
-    let located = locate(&m, point)?;
+    let located = locate(m, point)?;
     let q = m.points[located.place];
     permit_declared(CallRefusal::NotDeclared, q)?;
-    Ok(store(m, located.place, q.reinstate()))
+    store(m, located.place, q.reinstate());
+    Ok(())
 }
 
 // A point's status, runs and level. Refused by 20 or 10.
-pub fn look(m: Monitor, point: u32) -> Result<Point, CallRefusal>
-    ensures { Looks m point result }
+pub fn look(m: &Monitor, point: u32) -> Result<Point, CallRefusal>
+    ensures { Looks m.now point result }
 {
-    let located = locate(&m, point)?;
+    let located = locate(m, point)?;
     Ok(m.points[located.place])
 }
 
 // Why a declared point is declared. Refused by 20, 10 or 36.
-pub fn reason(m: Monitor, point: u32) -> Result<Reason, CallRefusal>
-    ensures { Reasons m point result }
+pub fn reason(m: &Monitor, point: u32) -> Result<Reason, CallRefusal>
+    ensures { Reasons m.now point result }
 {
-    let located = locate(&m, point)?;
+    let located = locate(m, point)?;
     let q = m.points[located.place];
     permit_declared(CallRefusal::NoReason, q)?;
     Ok(q.reason)
@@ -136,10 +139,10 @@ pub fn reason(m: Monitor, point: u32) -> Result<Reason, CallRefusal>
 
 // What is kept with the aggregate of this point: sums over its members' kept lines, and whether every member has one. Refused by 20 or 10, and
 // by 10 once more where the point is a unit's, which has no target of its own.
-pub fn target(m: Monitor, point: u32) -> Result<Target, CallRefusal>
-    ensures { Targets m point result }
+pub fn target(m: &Monitor, point: u32) -> Result<Target, CallRefusal>
+    ensures { Targets m.now point result }
 {
-    let located = locate(&m, point)?;
+    let located = locate(m, point)?;
     let aggregate = located
         .place
         .checked_sub(located.roster.units)

@@ -37,7 +37,7 @@ found-is : (s : Sums) (v : Option View) → all_read s ≡ true → all_read (ad
 found-is s (Some v) r = readable-found s v ∙ r
 found-is s None r = unreadable-found s
 
--- an unreadable line is not forgotten
+-- the flag stays false after an unreadable line
 pub unreadable-last : (s : Sums) (v : Option View) → is_some v ≡ false → all_read (add_view s v) ≡ false
 unreadable-last s None e = unreadable-found s
 unreadable-last s (Some v) e = cc

@@ -1,23 +1,18 @@
--- A pass along a stretch, one member at a time, as the inner loop has it, and the passes one after another, as the outer loop has them.
--- Assumes nothing.
-use mathlib.Core.Path.{◌≡◌, refl, sym, ap, ap₂, subst, ◌∙◌}
-use mathlib.Core.Bool.{Bool, true, false, not, ◌||◌}
-use mathlib.Core.List.{List, [], ◌∷◌, map}
+-- A pass along a stretch, one member at a time, and what stands at each aggregate's place. Assumes nothing.
+use mathlib.Core.Path.{◌≡◌, refl, sym, ap, ◌∙◌}
+use mathlib.Core.Bool.{Bool, true, false, not}
+use mathlib.Core.List.{List, ◌∷◌, map, map-map}
 use Prim.Native.Nat.{ℕ, ◌+◌, ◌*◌, ◌≤◌, ◌<◌}
 use native.Mathlib.Omega.{arith}
-use borrow.Author.Tests.{eq-eqb}
-use lib.Dec.{eqb}
 use lib.ListN.{length, get_or, drop, replicate, length-replicate, drop_of_length-le}
 use Rattle.std.specs.Prelude.{Option, IfSome}
 use Rattle.std.proofs.Common.{add-one}
 use Rattle.std.proofs.Math.Seq.{drop-cons}
 use Rattle.trace.proofs.Sweeps.{get_or-sweep}
-use Rattle.plants.specs.Plants.{elem}
 use Rattle.plants.specs.Rosters.{stretch_of, roster_sound}
 use Rattle.plants.specs.declared.Roster.{Roster}
 use Rattle.plants.proofs.Soundness.{sound-units}
-use Rattle.plants.proofs.Stretches.{stretch-few, member-inside}
-use Rattle.plants.proofs.Stretches.{stretch-at}
+use Rattle.plants.proofs.Stretches.{stretch-few, member-inside, stretch-at, map_same}
 use Rattle.marks.specs.declared.Sight.{Sight}
 use Rattle.aggregates.specs.Aggregates.{no_sums}
 use Rattle.aggregates.specs.Sizes.{SmallSums}
@@ -29,10 +24,6 @@ use Rattle.passes.specs.Passes.{pass_over, whole}
 use Rattle.passes.specs.Seen.{seen_at, members_seen, Seen, pass_from, no_pass, pass_at, passes_of}
 use Rattle.passes.specs.declared.Pass.{Pass}
 use Rattle.passes.proofs.Looks.{run_from, run-start, run_more, run_end, run-stopped, pass_of}
-
-or_right : (a b : Bool) → b ≡ true → (a || b) ≡ true
-or_right true b e = refl
-or_right false b e = e
 
 double_not : {a b : Bool} → not a ≡ b → a ≡ not b
 double_not {a = true} e = ap not e
@@ -85,9 +76,7 @@ module _ {roster : Roster} {seen : List (Option View)} {j : ℕ} where
       here = get_or places k 0
 
       inside : here < roster.units
-      inside =
-          subst (λ (us : List ℕ). get_or us k 0 < roster.units) (sym a.stretch)
-          (stretch-at roster known.sound j l k (subst (λ (us : List ℕ). k < length us) a.stretch m))
+      inside = stretch-at roster known.sound j l a.stretch k m
 
       pub place-in : here < 64
       place-in = omega (arith, inside, sound-units roster known.sound)
@@ -142,16 +131,15 @@ unfolding passes_of
 passes_at roster seen j l few d =
     get_or-sweep (pass_at roster seen) roster.aggregates (replicate 16 no_pass) d j l (rw (length-replicate 16 no_pass) few)
 
-map-alike : {A B : Type 0} (f : ℕ → A) (g : ℕ → B) (h : B → A) (xs : List ℕ) → ((u : ℕ) → elem u xs ≡ true → f u ≡ h (g u))
-    → map f xs ≡ map h (map g xs)
-map-alike f g h [] e = refl
-map-alike f g h (x ∷ xs) e =
-    ap₂ ◌∷◌ (e x (rw (eq-eqb x x refl))) (map-alike f g h xs (λ u m. e u (or_right (eqb u x) _ m)))
-
 pub pass-at-members : (roster : Roster) (seen : List (Option View)) (sight : ℕ → Sight) → roster_sound roster ≡ true
     → ((i : ℕ) → i < roster.units → seen_at seen i ≡ view_of (sight i))
     → (j : ℕ) → j < roster.aggregates → pass_at roster seen j ≡ pass_over (map sight (stretch_of roster j))
 unfolding members_seen
 pass-at-members roster seen sight sound alike j l =
-    ap pass_from (map-alike (seen_at seen) sight view_of (stretch_of roster j) (λ u m. alike u (member-inside roster sound j l u m)))
+    ap pass_from
+    (map_same (seen_at seen) (λ u. view_of (sight u)) (stretch_of roster j) (λ u m. alike u (member-inside roster sound j l u m))
+    ∙ sym (map-map view_of sight (stretch_of roster j)))
     ∙ pass_of (map sight (stretch_of roster j))
+
+-- one member's turn, but for what it adds
+pub ruleset along = (along-none, along-few, along-small, place-in, member-small, wider)

@@ -22,7 +22,7 @@ looked_at (v ∷ vs) = cond (is_readable v.line) (suc (looked_at vs)) 1
 unfoldable pub pass_over : List Sight → Pass
 pass_over members = record { assessment = aggregate_assessment members; looked = looked_at members }
 
--- ---- how the code comes to it; `proofs/Looks.antt` has why
+-- ---- step by step; `proofs/Looks.antt` has why
 
 -- a pass that met no unreadable member
 unfoldable pub whole : Sums → ℕ → Pass

@@ -27,8 +27,9 @@ pub struct Span {
 }
 
 // Why a point is declared.
-#[derive(Clone, Copy, Debug, PartialEq, Eq, Hash)]
+#[derive(Clone, Copy, Debug, Default, PartialEq, Eq, Hash)]
 pub enum Reason {
+    #[default]
     ByOperator,
     BySmallRun(Span),
     ByLargeRun(Span),
@@ -48,8 +49,10 @@ impl Reason {
 }
 
 // Status, stored runs, constraint level and reason. A declared point has status 4 and no runs; one that is not has no reason to tell,
-// and holds `ByOperator`. The status is a number, since a state with any can be sent to a call, and a look tells it.
-#[derive(Clone, Copy, Debug, PartialEq, Eq, Hash)]
+// and holds `ByOperator`: no Option, since a state with status 4 and none could be sent, and the call for the reason would need an answer for it.
+// The status is a number, and is tested and given as one, since a state with any can be sent to a call, and a look tells it. The default is
+// Normal: status 0, no runs, level 0.
+#[derive(Clone, Copy, Debug, Default, PartialEq, Eq, Hash)]
 pub struct Point {
     pub status: u8,
     pub small: Run,
@@ -58,7 +61,8 @@ pub struct Point {
     pub reason: Reason,
 }
 
-// The run lengths of a plant, and whether an interval is in automatic mode.
+// The run lengths of a plant, and whether an interval is in automatic mode. The interval's number is no part of it: a status goes by the rule
+// alone.
 #[derive(Clone, Copy, Debug, PartialEq, Eq, Hash)]
 pub struct Rule {
     pub small: Lengths,
@@ -89,21 +93,7 @@ impl Run {
     }
 }
 
-// Normal: status 0, no runs, level 0.
-impl Default for Point {
-    ghost is_default = { λ point. point ≡ normal };
-
-    fn default() -> Self {
-        Point {
-            status: 0,
-            small: Run::default(),
-            large: Run::default(),
-            level: 0,
-            reason: Reason::ByOperator,
-        }
-    }
-}
-
+// The rules name these forms: `count`, `clear`, `declare` and `reinstate` take a record and hand the next one back.
 impl Point {
     // No runs.
     pub fn clear(self) -> Point
@@ -233,6 +223,7 @@ impl Point {
 // ---- the report
 
 // The 16 bytes of a point from `at` on.
+#[tactic(auto, using(crate::proofs::Lengths16::parts))]
 pub fn put_record(report: &mut [u8], at: usize, assessment: Assessment, point: Point)
     requires { at + 16 ≤ length report.old }
     ensures { report.new ≡ put_at report.old at (record_of assessment point) }
@@ -240,7 +231,7 @@ pub fn put_record(report: &mut [u8], at: usize, assessment: Assessment, point: P
     let mark = u8::from(assessment.mark);
     let head = [point.status, mark, point.small.count, point.large.count];
     wire::put_four(report, at, head);
-    wire::put_whole(report, at + 4, assessment.error);
-    wire::put_word(report, at + 8, assessment.trigger);
-    wire::put_whole(report, at + 12, point.level);
+    wire::put_four(report, at + 4, assessment.error.to_le_bytes());
+    wire::put_four(report, at + 8, assessment.trigger.to_le_bytes());
+    wire::put_four(report, at + 12, point.level.to_le_bytes());
 }

@@ -1,5 +1,5 @@
--- An aggregate's stretch, one member at a time, with its place and its end as the loop has them. Assumes nothing.
-use mathlib.Core.Path.{◌≡◌, refl, sym, ap, subst, ◌∙◌}
+-- An aggregate's target along its stretch, one member at a time. Assumes nothing.
+use mathlib.Core.Path.{◌≡◌, refl, sym, ap, ◌∙◌}
 use mathlib.Core.Bool.{Bool, ◌&&◌, and-true, and-false}
 use mathlib.Core.List.{List, [], ◌∷◌, map}
 use Prim.Native.Nat.{ℕ, ◌+◌, ◌*◌, ◌≤◌, ◌<◌}
@@ -12,8 +12,7 @@ use Rattle.trace.specs.Lists.{all_in, fold}
 use Rattle.plants.specs.Rosters.{stretch_of, held}
 use Rattle.plants.specs.declared.Roster.{Roster}
 use Rattle.plants.proofs.Soundness.{sound-units}
-use Rattle.plants.proofs.Stretches.{stretch-few}
-use Rattle.plants.proofs.Stretches.{stretch-at}
+use Rattle.plants.proofs.Stretches.{stretch-few, stretch-at}
 use Rattle.marks.specs.Bounds.{SmallKept}
 use Rattle.marks.specs.declared.Kept.{Kept}
 use Rattle.aggregates.proofs.Small.{signed-size}
@@ -106,8 +105,7 @@ module _ {roster : Roster} {kept : List (Option Kept)} {aggregate : ℕ} where
       along-small = let bound : 2000000 * k ≤ 130000000 = omega (arith, few, m) in wider bound a.small
 
       pub along-here : here < roster.units
-      along-here = subst (λ (us : List ℕ). get_or us k 0 < roster.units) (sym a.stretch)
-          (stretch-at roster known.sound aggregate l k (subst (λ (us : List ℕ). k < length us) a.stretch m))
+      along-here = stretch-at roster known.sound aggregate l a.stretch k m
 
       pub along-within : here < 64
       along-within = omega (arith, along-here, sound-units roster known.sound)
@@ -129,3 +127,6 @@ module _ {roster : Roster} {kept : List (Option Kept)} {aggregate : ℕ} where
             small = rw e (wider bound (member-more t member.load member.line a.small along-kept));
             ends = rw (e, add-one) (sym (from_more t member _) ∙ sym more ∙ a.ends);
           }
+
+-- one member's turn, but for what it adds
+pub ruleset along = (along-none, along-small, along-within, along-kept, along-end)

@@ -35,6 +35,7 @@ impl Target {
             };
         };
         let sum = aggregates::add_signed(load, i64::from(self.target), line.target);
+        // By `as`, since it fits: `try_from` would have a case that cannot be.
         Target {
             target: sum as i32,
             raise: self.raise + line.raise,
@@ -46,6 +47,7 @@ impl Target {
 
 // What the kept lines make of an aggregate, along its stretch of the list: unlike the pass that gives the mark, past a member whose line was
 // unreadable.
+#[tactic(auto, using(crate::proofs::Walks::along))]
 fn target_of(roster: &Roster, kept: &[Option<Kept>; 64], aggregate: usize) -> Target
     requires known { Known roster.now kept.now }
     requires aggregate_in_bounds { aggregate < roster.now.aggregates }
@@ -62,14 +64,13 @@ fn target_of(roster: &Roster, kept: &[Option<Kept>; 64], aggregate: usize) -> Ta
     target
 }
 
-// What the kept lines make of each aggregate.
-pub fn targets_of(roster: &Roster, kept: &[Option<Kept>; 64], before: [Target; 16]) -> [Target; 16]
+// What the kept lines make of each aggregate, in place of what was kept with it.
+#[tactic(auto, using(plants::proofs::Soundness::each_aggregate))]
+pub fn update_targets(roster: &Roster, kept: &[Option<Kept>; 64], targets: &mut [Target; 16])
     requires { Known roster.now kept.now }
-    ensures { result ≡ sweep (target_of (held roster.now) (kept_in kept.now)) roster.now.aggregates before }
+    ensures { targets.new ≡ sweep (target_of (held roster.now) (kept_in kept.now)) roster.now.aggregates targets.old }
 {
-    let mut targets = before;
     for aggregate in 0..roster.aggregates {
         targets[aggregate] = target_of(roster, kept, aggregate);
     }
-    targets
 }

@@ -1,7 +1,6 @@
 -- The error, the trigger and the level are small enough for their types.
 use Rattle.std.proofs.Common.{arith, ◌≡◌, ℤ, ◌≤◌, nat_abs, to_z, of_z, w32, w64}
 use Rattle.std.proofs.lemmas.Int.{ints}
-use Rattle.triggers.proofs.Thresholds.{small-bounded}
 use Rattle.marks.specs.Assessments.{judged}
 use Rattle.marks.proofs.Fields.{assessment-is}
 use Rattle.marks.proofs.Small.{error-size}
@@ -13,15 +12,6 @@ wide z h = omega (arith, ints)
 
 narrow : (z : ℤ) → nat_abs z ≤ 390000000 → to_z w32 (of_z w32 (to_z w64 (of_z w64 z))) ≡ z
 narrow z h = omega (arith, ints)
-
-pub mark_of-requires : goal.mark_of-requires
-mark_of-requires c = omega (arith, ints, error-size _ c.requires)
-
-pub overflow_cast-result : goal.overflow_cast-result
-overflow_cast-result c = omega (arith, ints, error-size _ c.requires)
-
-pub overflow_cast-result-2 : goal.overflow_cast-result-2
-overflow_cast-result-2 c = omega (arith, small-bounded c.args.b.availability c.args.b.rate c.requires.availability)
 
 pub returns : goal.returns
 unfolding judged

@@ -1,5 +1,4 @@
-use Rattle.std.proofs.Common.{◌∙◌, sym, ap}
-use Rattle.std.proofs.lemmas.Result.{err_from_is_err_and}
+use Rattle.std.proofs.Common.{ap}
 use Rattle.intervals.specs.Monitors.{point_at}
 use Rattle.operators.specs.Operators.{permit}
 use Rattle.operators.proofs.Operated.{found, judged, unfound}
@@ -7,12 +6,10 @@ use Rattle.operators.proofs.Refusals.{look-refused, look-accepted}
 use Rattle.operators.proofs.look.Goals as goal
 
 pub returns-in_err-located : goal.returns-in_err-located
-returns-in_err-located c =
-    let p = err_from_is_err_and c.from_residual.result c.from_residual.ensures.1 in
-    rw (p.1, p.2) (look-refused _ _ (unfound _ _ (sym c.locate.ensures.located ∙ c.in_err-located.was) _))
+returns-in_err-located c = look-refused _ _ (unfound _ _ c.locate.ensures.located c.in_err-located.was _) c.from_residual.ensures.1
 
 pub returns : goal.returns
 unfolding permit
 returns c =
-    let at = sym c.locate.ensures.located ∙ c.in_ok-located.was in
-    look-accepted _ _ (judged _ _ at _) (ap (point_at c.args.m) (found _ _ at).place)
+    let f = found _ _ c.locate.ensures.located c.in_ok-located.was in
+    look-accepted _ _ (judged _ _ f _) (ap (point_at c.args.m.now) f.place)
