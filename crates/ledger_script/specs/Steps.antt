@@ -18,6 +18,10 @@ Outcome = turns.Outcome Ledger
 abbrev pub unread : Ledger → ℕ → Outcome
 unread l at = record { state = l; more = false; text = error_text at }
 
+-- a call that is answered
+abbrev pub goes_on : Ledger → List ℕ → Outcome
+goes_on l text = record { state = l; more = true; text = text }
+
 -- a day that was assessed
 abbrev pub made_day : Ledger → Date → Day → Outcome
 made_day l date day =

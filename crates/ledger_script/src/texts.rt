@@ -3,23 +3,17 @@ ghost use Rattle.std.specs.Prelude.{[], ◌∷◌, ◌≤◌, length};
 ghost use Rattle.text.specs.Numbers.{ascii};
 ghost use Rattle.text.specs.Lines.{line, numbered_of};
 ghost use Rattle.text.specs.Puts.{Put};
-ghost use Rattle.ledger_script.specs.Texts.{accepted_text, refused_text, error_text};
+ghost use Rattle.ledger_script.specs.Texts.{accepted_text};
 
 use response::Day;
 use text::Field;
 
-// Words and a number.
-fn put_numbered(out: &mut [u8; 128], words: &[u8], number: u64) -> usize
+// Words and a number. The words are any bytes, as a field's are. Each call gives a literal: a type for short words would be no plainer.
+pub(crate) fn put_numbered(out: &mut [u8; 128], words: &[u8], number: u64) -> usize
     requires { length words.now ≤ 20 }
     ensures { Put out.old 0 (numbered_of words.now number) result out.new }
 {
     text::put_line(out, 0, &[Field::Words(words), Field::U64(number)])
-}
-
-pub(crate) fn put_error(out: &mut [u8; 128], at: u64) -> usize
-    ensures { Put out.old 0 (error_text at) result out.new }
-{
-    put_numbered(out, b"script error at byte", at)
 }
 
 // The day's values, and whether the unit is declared after the call.
@@ -38,20 +32,8 @@ pub(crate) fn put_accepted(out: &mut [u8; 128], day: Day, declared: bool) -> usi
     text::put_line(out, 0, &fields)
 }
 
-pub(crate) fn put_refused(out: &mut [u8; 128], number: u32) -> usize
-    ensures { Put out.old 0 (refused_text number) result out.new }
-{
-    put_numbered(out, b"day refused", number.into())
-}
-
 pub(crate) fn put_reinstated(out: &mut [u8; 128]) -> usize
     ensures { Put out.old 0 (line (ascii "reinstate accepted" ∷ [])) result out.new }
 {
     text::put_line(out, 0, &[Field::Words(b"reinstate accepted")])
-}
-
-pub(crate) fn put_not_reinstated(out: &mut [u8; 128], number: u32) -> usize
-    ensures { Put out.old 0 (numbered_of (ascii "reinstate refused") number) result out.new }
-{
-    put_numbered(out, b"reinstate refused", number.into())
 }

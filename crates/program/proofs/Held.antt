@@ -22,7 +22,8 @@ use Rattle.telemetry.specs.declared.Fields.{Fields}
 use Rattle.plants.specs.Plants.{elem}
 use Rattle.plants.specs.Rosters.{stretch_of}
 use Rattle.plants.proofs.Stretches.{stretch-few, member-inside}
-use Rattle.marks.specs.Assessments.{is_missing, is_uncapped, judged, without, unit_basis, known_assessment, kept_assessment, readable_assessment, line_assessment, unit_assessment}
+use Rattle.marks.specs.Assessments.{is_missing, is_uncapped, judged, without, unit_basis}
+use Rattle.marks.specs.Assessments.{known_assessment, kept_assessment, readable_assessment, line_assessment, unit_assessment}
 use Rattle.aggregates.specs.Aggregates.{no_sums, add_member, add_members, aggregate_basis, sums_assessment, aggregate_assessment}
 use Rattle.marks.specs.Bounds.{SmallFields, SmallLine, SmallKept, SmallSight, SmallBasis}
 use Rattle.aggregates.specs.Sizes.{SmallSums}
@@ -55,7 +56,8 @@ pub record Held (a : Assessment) (p : Point) : Type 0 where
 
 -- ---- how large an assessment's numbers are
 
--- an error is at most three sums of 65 members, a trigger 3 per cent of one in hundredths, a level one
+-- an aggregate has at most 64 members, and the bounds have room for 65: an error is at most three sums, a trigger 3 per cent of one in
+-- hundredths, a level one
 record SmallAssessment (a : Assessment) : Type 0 where
   error : nat_abs a.error ≤ 390000000
   trigger : a.trigger ≤ 390000000
@@ -141,7 +143,8 @@ module _ (m : Monitor) (sound : sound_of m ≡ true) (buffer : List ℕ) where
   level_in : (i : ℕ) → i < total (plant_in m) → SFits w32 (point_at m i).level → SFits w32 (point_after m buffer i).level
   unfolding point_after
   level_in i l stored =
-      level-after (SFits w32) (rule_of (plant_in m) (is_automatic (header_of buffer))) (number_of (header_of buffer)) (assessment_in m buffer i) (point_at m i) stored
+      let rule = rule_of (plant_in m) (is_automatic (header_of buffer)) in
+      level-after (SFits w32) rule (number_of (header_of buffer)) (assessment_in m buffer i) (point_at m i) stored
       (size_fits w32 (assessment_in m buffer i).level (small-in i l).level (lit< tt))
       (size_fits w32 (pos 0) {k = 0} (lit≤ tt) (lit< tt))
 

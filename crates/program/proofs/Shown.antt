@@ -80,7 +80,8 @@ goes-on m n text (Err k) e = absurd (cc)
 
 -- A step of the program, where the run goes on: its text is a line for each point, which shows the point's values after the interval.
 -- A stored level is an i32.
-pub step-shown : (m : Monitor) (buffer : List ℕ) → ((i : ℕ) → i < total (plant_in m) → SFits w32 (point_at m i).level) → (step_of m buffer).more ≡ true
+pub step-shown : (m : Monitor) (buffer : List ℕ) → ((i : ℕ) → i < total (plant_in m) → SFits w32 (point_at m i).level)
+    → (step_of m buffer).more ≡ true
     → (step_of m buffer).text
     ≡ records (λ i. shown_of (interval_number (header_of buffer)) (suc i) (assessment_in m buffer i) (point_after m buffer i)) (total (plant_in m))
 unfolding step_of taken_from interval_of report_of record_after

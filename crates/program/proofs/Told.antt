@@ -20,7 +20,7 @@ shown (Ok n) m buffer left = refl
 shown (Err k) m buffer left = refl
 
 -- Bytes that are not empty are one call of demand 3's lists, an interval with a blank report buffer: the step goes to the state that the
--- call returns, prints the text of the call's outcome, and the run goes on exactly where that is not a refusal.
+-- call leaves, prints the text of the call's outcome, and the run goes on exactly where that is not a refusal.
 pub step-told : (m : Monitor) (bytes : List ℕ) → (length bytes ≡ 0 → ⊥)
     → step_of m bytes ≡ shown_by (next m (interval bytes (blank m))) bytes (answer m (interval bytes (blank m)))
 unfolding step_of taken_from

@@ -18,7 +18,7 @@ use Rattle.text.specs.Lines.{lines_of, refused_of}
 abbrev pub Outcome : Type 0
 Outcome = Turned Monitor
 
--- an accepted call goes on from the state that it returned
+-- an accepted call goes on from the state that it leaves
 abbrev pub accepted : Monitor → List ℕ → Outcome
 accepted m text = record { state = m; more = true; text = text }
 

@@ -1,4 +1,6 @@
-// A step of the program (01, "The program"): the next state, whether the run goes on, and the text to write.
+// A step of the program (01, "The program"): the next state, whether the run goes on, and the text to write. The state, the interval and
+// the buffer stay apart, as the run gives them: in a struct, a promise's `out.new` would be a part of its `exit` (`text::Writer` has
+// such a field, and promises by `Writes`, which stays inside `text`).
 #![tactic(auto)]
 
 ghost use Rattle.std.specs.Prelude.{◌≡◌, length};
@@ -10,13 +12,10 @@ use text::Field;
 use turns::Turn;
 
 // Room for the text of any step.
-pub fn room() -> [u8; 8192]
-    ensures { 8192 ≡ length result }
-{
-    [0; 8192]
-}
+pub const ROOM: usize = 8192;
 
 // The bytes of an interval. No register has more than 64 units.
+#[tactic(auto, unfolding(plants::specs::Rosters::no_roster))]
 pub fn interval_size(m: Monitor) -> usize
     ensures { result ≡ size_of m }
 {
@@ -24,6 +23,7 @@ pub fn interval_size(m: Monitor) -> usize
 }
 
 // The bytes of its report. No register has more than 16 aggregates.
+#[tactic(auto, unfolding(plants::specs::Rosters::no_roster))]
 fn report_size(m: &Monitor) -> usize
     ensures { result ≡ room_of m.now }
 {
@@ -50,14 +50,14 @@ pub fn start(register: &[u8], out: &mut [u8; 8192]) -> Turn<Monitor>
 }
 
 // An interval whose report has its place.
-fn take(m: Monitor, buffer: &[u8], report: &mut [u8], out: &mut [u8; 8192]) -> Turn<Monitor>
+fn take(mut m: Monitor, buffer: &[u8], report: &mut [u8], out: &mut [u8; 8192]) -> Turn<Monitor>
     requires { length report.old ≡ room_of m }
     ensures { Steps (taken_from m buffer.now report.old) result out.old out.new }
 {
-    match monitor::interval(m, buffer, report) {
-        Ok(next) => {
+    match monitor::interval(&mut m, buffer, report) {
+        Ok(()) => {
             let length = text::put_report(out, 0, wire::word_at(buffer, 0), report);
-            Turn::continues(next, length)
+            Turn::continues(m, length)
         }
         Err(refusal) => refuse(m, u32::from(refusal), out),
     }

@@ -10,13 +10,9 @@ use response::Day;
 use text::Field;
 
 // Room for any line.
-pub fn room() -> [u8; 64]
-    ensures { 64 ≡ length result }
-{
-    [0; 64]
-}
+pub const ROOM: usize = 64;
 
-// The word of a flag.
+// The word of a flag. No `Display`: `text` says why.
 pub fn flag_word(flag: Option<Flag>) -> &'static [u8]
     ensures word { result.now ≡ flag_text flag }
     ensures short { length result.now ≤ 5 }

@@ -4,15 +4,16 @@ use mathlib.Core.List.{List, [], ◌∷◌}
 use Prim.Native.Nat.{ℕ}
 use native.Mathlib.Omega.{arith}
 use lib.ListN.{length}
-use Rattle.std.specs.Prelude.{Result}
+use Rattle.std.specs.Prelude.{Result, ℤ}
 use Rattle.intervals.specs.Assessments.{header_of, number_of}
 use Rattle.intervals.specs.Intervals.{state_after, interval_of, report_of}
 use Rattle.intervals.specs.declared.CallRefusal.{CallRefusal}
-use Rattle.monitor.specs.Calls.{interval}
+use Rattle.operators.specs.Operators.{declare, reinstate, operated_of}
+use Rattle.monitor.specs.Calls.{interval, operate}
 use Rattle.intervals.specs.declared.Monitor.{Monitor}
 use Rattle.program.specs.Steps.{ended}
 use Rattle.script.specs.Items.{item_of}
-use Rattle.script.specs.Texts.{interval_text}
+use Rattle.script.specs.Texts.{interval_text, declare_text, reinstate_text}
 use Rattle.script.specs.Steps.{answered, made_call, made_by, step_of}
 
 pub step_end : (m : Monitor) (at : ℕ) (bytes : List ℕ) → length bytes ≡ 0 → step_of m at bytes ≡ ended m
@@ -28,3 +29,11 @@ step-item m at (byte ∷ bytes) e = refl
 pub interval-so : (m : Monitor) (buffer report : List ℕ) {r : Result Monitor CallRefusal} → r ≡ interval_of m buffer (length report)
     → made_call m (interval buffer report) ≡ answered (state_after m r) (interval_text r (number_of (header_of buffer)) (report_of m buffer report))
 interval-so m buffer report e = rw (sym e)
+
+pub declare-so : (m : Monitor) (level : ℤ) (p : ℕ) {r : Result Monitor CallRefusal} → r ≡ operated_of (declare level) m p
+    → made_call m (operate (declare level) p) ≡ answered (state_after m r) (declare_text r)
+declare-so m level p e = rw (sym e)
+
+pub reinstate-so : (m : Monitor) (p : ℕ) {r : Result Monitor CallRefusal} → r ≡ operated_of reinstate m p
+    → made_call m (operate reinstate p) ≡ answered (state_after m r) (reinstate_text r)
+reinstate-so m p e = rw (sym e)

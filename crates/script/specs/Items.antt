@@ -6,7 +6,7 @@
 --   5 look        u32 point
 --   6 reason      u32 point
 --   7 target      u32 point
-use Rattle.std.specs.Prelude.{Bool, cond, ◌&&◌, List, ℕ, ◌≤◌, leb, eqb, length, drop, replicate, Option, Some, None}
+use Rattle.std.specs.Prelude.{Bool, cond, ◌&&◌, List, ℕ, leb, eqb, length, drop, replicate, Option, Some, None}
 use Rattle.wire.specs.Fields.{word_at, whole_at}
 use Rattle.frames.specs.Frames.{is_frame}
 use Rattle.operators.specs.Operators.{declare, reinstate, ask, look, reason, target}
@@ -56,7 +56,7 @@ item_of bytes = when (is_frame bytes) (payload_item (word_at bytes 0) (drop 8 by
 -- what the code makes of a call's bytes: the report buffer of an interval is told by its length
 abbrev pub item_by : Read → Item
 item_by (Load register) = loads register.now
-item_by (Interval room buffer) = calls (interval buffer.now (replicate room 0))
+item_by (Interval room buffer) = calls (interval buffer.now (replicate room.bytes 0))
 item_by (Declare point level) = calls (operate (declare level) point)
 item_by (Reinstate point) = calls (operate reinstate point)
 item_by (Look point) = calls (operate (ask look) point)
@@ -66,13 +66,3 @@ item_by (Target point) = calls (operate (ask target) point)
 abbrev pub item_read : Option Read → Item
 item_read (Some call) = item_by call
 item_read None = unreadable
-
--- that length is no greater than the longest
-abbrev pub HasRoom : Read → Type 0
-HasRoom (Load register) = Unit {0}
-HasRoom (Interval room buffer) = room ≤ longest_report
-HasRoom (Declare point level) = Unit {0}
-HasRoom (Reinstate point) = Unit {0}
-HasRoom (Look point) = Unit {0}
-HasRoom (Reason point) = Unit {0}
-HasRoom (Target point) = Unit {0}

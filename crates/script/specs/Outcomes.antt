@@ -32,7 +32,7 @@ outcome_text (operate op p) (looked q) = look_line q
 outcome_text (operate op p) (reasoned why) = reason_line why
 outcome_text (operate op p) (targeted t) = target_line t
 
--- the texts of a list's calls, one after the other, each call made in the state that the call before it returned
+-- the texts of a list's calls, one after the other, each call made in the state that the call before it left
 abbrev pub texts : Monitor → List Call → List ℕ
 texts m [] = []
 texts m (c ∷ calls) = call_text m c ++ texts (next m c) calls

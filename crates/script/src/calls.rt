@@ -1,4 +1,8 @@
-// The calls: each is made in a state, and its answer put into a buffer.
+// The calls: each is made in a state, and its answer put into a buffer. The words of an answer stand by cases, and in no `Display`: `text`
+// says why. The state and the buffer go to each call as `runs` gives them, and a point as the calls of `monitor` take it: in a struct, the
+// promises' `out.new` would be a part of its `exit` (`text::Writer` has such a field, and promises by `Writes`, which stays inside `text`).
+// Words are any bytes, as a field's are. `declare`, `reinstate`, `look`, `reason` and `target` each make another call: one function would take
+// the call as a closure, and what it answers as fields.
 ghost use Rattle.std.specs.Prelude.{◌≡◌, ◌+◌, ◌≤◌, length, replicate};
 ghost use Rattle.turns.specs.Steps.{Steps};
 ghost use Rattle.operators.specs.Operators.{declare, reinstate, ask, look, reason, target};
@@ -9,6 +13,7 @@ ghost use Rattle.text.specs.Fields.{texts, longest_line_of};
 ghost use Rattle.script.specs.Texts.{accepted_text, reason_words, refused_by};
 ghost use Rattle.script.specs.Steps.{answered, made_load, made_call};
 
+use crate::room::Room;
 use monitor::{CallRefusal, Monitor};
 use points::Reason;
 use text::Field::{self, I32, U8, U32, Words};
@@ -23,7 +28,7 @@ fn answer(m: Monitor, fields: &[Field], out: &mut [u8; 8192]) -> Turn<Monitor>
     Turn::continues(m, length)
 }
 
-// A refusal: these words, and its number.
+// A refusal: these words, and its number. Each call gives a literal: a type for short words would be no plainer.
 fn refuse(m: Monitor, words: &[u8], refusal: CallRefusal, out: &mut [u8; 8192]) -> Turn<Monitor>
     requires { length words.now ≤ 20 }
     ensures { Steps (answered m (refused_by words.now refusal)) result out.old out.new }
@@ -46,8 +51,8 @@ pub(crate) fn load(m: Monitor, register: &[u8], out: &mut [u8; 8192]) -> Turn<Mo
 }
 
 // The lines of an accepted interval, behind its first line.
-fn put_accepted(out: &mut [u8], interval: u32, report: &[u8]) -> usize
-    requires { (8192 ≤ length out.old) × (length report.now ≤ 1280) }
+fn put_accepted(out: &mut [u8; 8192], interval: u32, report: &[u8]) -> usize
+    requires { length report.now ≤ 1280 }
     ensures { Put out.old 0 (accepted_text interval report.now) result out.new }
 {
     let lines = text::put_line(out, 0, &[Words(b"interval accepted")]);
@@ -57,41 +62,40 @@ fn put_accepted(out: &mut [u8], interval: u32, report: &[u8]) -> usize
 // An interval with a report buffer of zeros.
 #[tactic(auto, unfolding(crate::specs::Texts::interval_text))]
 pub(crate) fn interval(
-    m: Monitor,
+    mut m: Monitor,
     buffer: &[u8],
-    room: usize,
+    room: Room,
     out: &mut [u8; 8192],
 ) -> Turn<Monitor>
-    requires { room ≤ 4096 }
-    ensures { Steps (made_call m (interval buffer.now (replicate room 0))) result out.old out.new }
+    ensures { Steps (made_call m (interval buffer.now (replicate room.bytes 0))) result out.old out.new }
 {
     let mut report = [0; 4096];
-    let report = &mut report[..room];
-    match monitor::interval(m, buffer, report) {
-        Ok(next) => {
+    let report = &mut report[..room.bytes];
+    match monitor::interval(&mut m, buffer, report) {
+        Ok(()) => {
             let length = put_accepted(out, wire::word_at(buffer, 0), report);
-            Turn::continues(next, length)
+            Turn::continues(m, length)
         }
         Err(refusal) => refuse(m, b"interval refused", refusal, out),
     }
 }
 
 #[tactic(auto, unfolding(crate::specs::Texts::declare_text))]
-pub(crate) fn declare(m: Monitor, point: u32, level: i32, out: &mut [u8; 8192]) -> Turn<Monitor>
+pub(crate) fn declare(mut m: Monitor, point: u32, level: i32, out: &mut [u8; 8192]) -> Turn<Monitor>
     ensures { Steps (made_call m (operate (declare level) point)) result out.old out.new }
 {
-    match monitor::declare(m, point, level) {
-        Ok(next) => answer(next, &[Words(b"declare accepted")], out),
+    match monitor::declare(&mut m, point, level) {
+        Ok(()) => answer(m, &[Words(b"declare accepted")], out),
         Err(refusal) => refuse(m, b"declare refused", refusal, out),
     }
 }
 
 #[tactic(auto, unfolding(crate::specs::Texts::reinstate_text))]
-pub(crate) fn reinstate(m: Monitor, point: u32, out: &mut [u8; 8192]) -> Turn<Monitor>
+pub(crate) fn reinstate(mut m: Monitor, point: u32, out: &mut [u8; 8192]) -> Turn<Monitor>
     ensures { Steps (made_call m (operate reinstate point)) result out.old out.new }
 {
-    match monitor::reinstate(m, point) {
-        Ok(next) => answer(next, &[Words(b"reinstate accepted")], out),
+    match monitor::reinstate(&mut m, point) {
+        Ok(()) => answer(m, &[Words(b"reinstate accepted")], out),
         Err(refusal) => refuse(m, b"reinstate refused", refusal, out),
     }
 }
@@ -100,7 +104,7 @@ pub(crate) fn reinstate(m: Monitor, point: u32, out: &mut [u8; 8192]) -> Turn<Mo
 pub(crate) fn look(m: Monitor, point: u32, out: &mut [u8; 8192]) -> Turn<Monitor>
     ensures { Steps (made_call m (operate (ask look) point)) result out.old out.new }
 {
-    match monitor::look(m, point) {
+    match monitor::look(&m, point) {
         Ok(q) => answer(
             m,
             &[
@@ -131,7 +135,7 @@ fn reason_words(reason: Reason) -> &'static [u8]
 pub(crate) fn reason(m: Monitor, point: u32, out: &mut [u8; 8192]) -> Turn<Monitor>
     ensures { Steps (made_call m (operate (ask reason) point)) result out.old out.new }
 {
-    match monitor::reason(m, point) {
+    match monitor::reason(&m, point) {
         Ok(reason) => {
             let span = reason.span();
             answer(
@@ -148,7 +152,7 @@ pub(crate) fn reason(m: Monitor, point: u32, out: &mut [u8; 8192]) -> Turn<Monit
 pub(crate) fn target(m: Monitor, point: u32, out: &mut [u8; 8192]) -> Turn<Monitor>
     ensures { Steps (made_call m (operate (ask target) point)) result out.old out.new }
 {
-    match monitor::target(m, point) {
+    match monitor::target(&m, point) {
         Ok(t) => answer(
             m,
             &[

@@ -3,9 +3,11 @@
 
 mod calls;
 mod reading;
+mod room;
 
+ghost use Rattle.std.specs.Prelude.{ℕ};
 ghost use Rattle.turns.specs.Steps.{Steps};
-ghost use Rattle.script.specs.Items.{item_by, HasRoom};
+ghost use Rattle.script.specs.Items.{item_by};
 ghost use Rattle.script.specs.Steps.{unread, made_by, step_of};
 
 use monitor::Monitor;
@@ -13,7 +15,8 @@ use reading::Call;
 use text::Field;
 use turns::Turn;
 
-// A call that cannot be read, whose tag is at this byte.
+// A call that cannot be read, whose tag is at this byte. The room differs from that of `ledger_script`, and so does the state: one function
+// for both would take the size and the state as parameters, for one line.
 fn unreadable(m: Monitor, at: u64, out: &mut [u8; 8192]) -> Turn<Monitor>
     ensures { Steps (unread m at) result out.old out.new }
 {
@@ -25,9 +28,8 @@ fn unreadable(m: Monitor, at: u64, out: &mut [u8; 8192]) -> Turn<Monitor>
     Turn::ends(m, length)
 }
 
-fn make(m: Monitor, at: u64, call: Call, out: &mut [u8; 8192]) -> Turn<Monitor>
-    requires { HasRoom call }
-    ensures { Steps (made_by m at (item_by call.entry)) result out.old out.new }
+fn make(m: Monitor, call: Call, out: &mut [u8; 8192]) -> Turn<Monitor>
+    ensures { (at : ℕ) → Steps (made_by m at (item_by call.entry)) result out.old out.new }
 {
     match call {
         Call::Load(register) => calls::load(m, register, out),
@@ -40,7 +42,8 @@ fn make(m: Monitor, at: u64, call: Call, out: &mut [u8; 8192]) -> Turn<Monitor>
     }
 }
 
-// The bytes that were read for a call, whose tag is at byte `at` of the file: none at its end.
+// The bytes that were read for a call, whose tag is at byte `at` of the file: none at its end. One function for this and that of
+// `ledger_script` would take three, to read a call, to make it, and to end at one that cannot be read.
 pub fn step(m: Monitor, at: u64, call: &[u8], out: &mut [u8; 8192]) -> Turn<Monitor>
     ensures { Steps (step_of m at call.now) result out.old out.new }
 {
@@ -48,7 +51,7 @@ pub fn step(m: Monitor, at: u64, call: &[u8], out: &mut [u8; 8192]) -> Turn<Moni
         return Turn::ends(m, 0);
     }
     match reading::read(call) {
-        Some(call) => make(m, at, call, out),
+        Some(call) => make(m, call, out),
         None => unreadable(m, at, out),
     }
 }

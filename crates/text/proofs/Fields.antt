@@ -7,10 +7,13 @@ use native.Mathlib.Omega.{arith}
 use lib.ListN.{length, get_or, take, drop, length-append}
 use Rattle.std.proofs.lemmas.List.{take_all}
 use Rattle.text.specs.Lines.{behind, joined, line}
-use Rattle.text.specs.Puts.{Room, Put, most}
+use Rattle.text.specs.Puts.{Room, most}
 use Rattle.text.specs.Fields.{field_text, texts, longest_field, longest_behind, longest_fields, longest_line_of}
 use Rattle.text.specs.declared.field.Field.{Field}
-use Rattle.text.proofs.Puts.{room-first, room-left, then}
+use Rattle.text.specs.Writers.{RoomFor, Writes}
+use Rattle.text.specs.declared.writer.Writer.{Writer}
+use Rattle.text.proofs.Puts.{room-first}
+use Rattle.text.proofs.Writers.{room-left, then}
 
 -- a line is its fields and its end
 pub line-joined : (texts : List (List ℕ)) → line texts ≡ joined texts ++ (10 ∷ [])
@@ -57,34 +60,32 @@ none (f ∷ fs) h = absurd (omega arith)
 
 -- ---- put one at a time
 
-module _ {out : List ℕ} {at : ℕ} (fs : List Field) (d : Field) (h : 1 ≤ length fs) (room : Room out at (joined (texts fs))) where
-  pub first-room : Room out at (field_text (get_or fs 0 d))
-  first-room = room-first _ _ (rw (first-and-others fs d h) at room)
+module _ (fs : List Field) (d : Field) (h : 1 ≤ length fs) where
+  pub first-room : {out : List ℕ} {at : ℕ} → Room out at (joined (texts fs)) → Room out at (field_text (get_or fs 0 d))
+  first-room room = room-first _ _ (rw (first-and-others fs d h) at room)
 
-  module _ {next : ℕ} {after : List ℕ} (put : Put out at (field_text (get_or fs 0 d)) next after) where
-    pub others-room : Room after next (behind (texts (others fs)))
+  module _ {w v : Writer} (room : RoomFor w (joined (texts fs))) (put : Writes w (field_text (get_or fs 0 d)) v) where
+    pub others-room : RoomFor v (behind (texts (others fs)))
     others-room = room-left put _ (rw (first-and-others fs d h) at room)
 
-    pub others-put : {last : ℕ} {end : List ℕ} → Put after next (behind (texts (others fs))) last end → Put out at (joined (texts fs)) last end
+    pub others-put : {u : Writer} → Writes v (behind (texts (others fs))) u → Writes w (joined (texts fs)) u
     others-put rest = rw (first-and-others fs d h) (then put (rw (first-and-others fs d h) at room) rest)
 
-module _ {out : List ℕ} {at next : ℕ} {after : List ℕ} (fs : List Field) (i : ℕ) (d : Field) (h : i < length fs)
-    (room : Room out at (behind (texts fs))) (so : Put out at (behind (texts (take i fs))) next after) where
-  room-more : Room out at (behind (texts (take i fs)) ++ (32 ∷ field_text (get_or fs i d)))
+module _ {w v : Writer} (fs : List Field) (i : ℕ) (d : Field) (h : i < length fs) (room : RoomFor w (behind (texts fs)))
+    (so : Writes w (behind (texts (take i fs))) v) where
+  room-more : RoomFor w (behind (texts (take i fs)) ++ (32 ∷ field_text (get_or fs i d)))
   room-more =
       let more = behind-more fs i d h in
       let first = room-first (behind (texts (take (suc i) fs))) _ (rw (behind-apart fs (suc i)) at room) in
       rw more at first
 
-  pub next-room : Room after next (32 ∷ field_text (get_or fs i d))
+  pub next-room : RoomFor v (32 ∷ field_text (get_or fs i d))
   next-room = room-left so _ room-more
 
-  pub next-put : {last : ℕ} {end : List ℕ} → Put after next (32 ∷ field_text (get_or fs i d)) last end
-      → Put out at (behind (texts (take (i + 1) fs))) last end
+  pub next-put : {u : Writer} → Writes v (32 ∷ field_text (get_or fs i d)) u → Writes w (behind (texts (take (i + 1) fs))) u
   next-put put = rw (add-one i, behind-more fs i d h) (then so room-more put)
 
-pub all-put : {out : List ℕ} {at next : ℕ} {after : List ℕ} (fs : List Field) (i : ℕ) → length fs ≤ i
-    → Put out at (behind (texts (take i fs))) next after → Put out at (behind (texts fs)) next after
+pub all-put : {w v : Writer} (fs : List Field) (i : ℕ) → length fs ≤ i → Writes w (behind (texts (take i fs))) v → Writes w (behind (texts fs)) v
 all-put fs i h put = rw (take_all i fs h) at put
 
 -- ---- counted one at a time
@@ -98,18 +99,5 @@ longest-next fs i d longest sum first h e l s w =
     rw (add-one i, behind-more fs i d h, longest-more fs i d h)
     (omega arith, omega (arith, length-append (behind (texts (take i fs))) (32 ∷ field_text (get_or fs i d))))
 
-module _ (fs : List Field) (i : ℕ) (d : Field) (first sum : ℕ) (some : 1 ≤ length fs) (all : length (others fs) ≤ i)
-    (e : first ≡ longest_field (get_or fs 0 d)) (l : length (field_text (get_or fs 0 d)) ≤ first)
-    (s : sum ≡ min most (first + longest_behind (take i (others fs))))
-    (w : length (behind (texts (take i (others fs)))) ≤ longest_behind (take i (others fs))) where
-  pub longest-all : sum ≡ min most (longest_fields fs)
-  longest-all = rw (first-and-others fs d some) (rw (take_all i (others fs) all, e) at s)
-
-  pub within-all : length (joined (texts fs)) ≤ longest_fields fs
-  within-all =
-      let rest = rw (take_all i (others fs) all) at w in
-      let sum = length-append (field_text (get_or fs 0 d)) (behind (texts (others fs))) in
-      rw (first-and-others fs d some) (omega arith)
-
-pub line-within : (fs : List Field) → length (joined (texts fs)) ≤ longest_fields fs → length (line (texts fs)) ≤ longest_line_of fs
-line-within fs h = rw line-joined (omega (arith, length-append (joined (texts fs)) (10 ∷ [])))
+pub line_within : (fs : List Field) → length (joined (texts fs)) ≤ longest_fields fs → length (line (texts fs)) ≤ longest_line_of fs
+line_within fs h = rw line-joined (omega (arith, length-append (joined (texts fs)) (10 ∷ [])))

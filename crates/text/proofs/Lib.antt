@@ -5,3 +5,4 @@ pub mod Digits
 pub mod Lines
 pub mod Rooms
 pub mod Fields
+pub mod Writers

@@ -1,6 +1,6 @@
 -- The pieces that the code puts make up a point's line, and the lines make up a report. Assumes nothing.
 use mathlib.Core.Path.{◌≡◌, refl, sym, ap, ◌∙◌}
-use mathlib.Core.List.{List, [], ◌∷◌, ◌++◌, append_assoc, append-nil}
+use mathlib.Core.List.{List, [], ◌∷◌, ◌++◌}
 use Prim.Native.Nat.{ℕ, zero, suc, ◌+◌, ◌*◌, ◌/◌, ◌≤◌, ◌<◌}
 use native.Mathlib.Numerals.{add-one}
 use native.Mathlib.Omega.{arith}
@@ -12,11 +12,13 @@ use lib.Seq.{drop-drop}
 use Rattle.std.specs.Simd.{first_chunks}
 use Rattle.trace.specs.Sweeps.{records}
 use Rattle.trace.proofs.Sweeps.{records-rise}
-use Rattle.text.specs.Lines.{line, joined, line_of, line_at, lines_of, numbered_of, spanned_of, standing_of, target_line_of, day_values_of, day_line_of}
+use Rattle.text.specs.Lines.{line, joined, line_of, line_at, lines_of, numbered_of, spanned_of, standing_of, target_line_of, day_values_of}
 use Rattle.text.specs.Fields.{texts, longest_fields, longest_line_of}
 use Rattle.text.specs.declared.field.Field.TheVariants.{Words, U8, U32, U64, I32, I64}
-use Rattle.text.specs.Puts.{Room, Put, longest_numbered, longest_spanned, longest_standing, longest_target, longest_day}
-use Rattle.text.proofs.Puts.{nothing, room-left, then}
+use Rattle.text.specs.Puts.{longest_numbered, longest_spanned, longest_standing, longest_target, longest_day}
+use Rattle.text.specs.Writers.{RoomFor, Writes}
+use Rattle.text.specs.declared.writer.Writer.{Writer}
+use Rattle.text.proofs.Writers.{nothing, room-left, then}
 
 -- a point's line, as the code puts it, from its record
 pub line-pieces : (interval point : ℕ) (r : List ℕ)
@@ -36,7 +38,7 @@ pub line-pieces : (interval point : ℕ) (r : List ℕ)
 unfolding line_of
 line-pieces interval point r = refl
 
--- the lines of words, and the values of a day, as their callers have them put, and the room that they take
+-- the named lines of words, and the values of a day: the fields that `put_line` and `put_fields` are given for each, and the room it takes
 module _ (words : Bor (List ℕ)) where
   pub numbered-pieces : (n : ℕ)
       → let fields = Words words ∷ U64 n ∷ [] in
@@ -63,52 +65,55 @@ pub day-pieces : (response : ℤ) (target : ℕ) (flag : Bor (List ℕ)) (under 
     (day_values_of response target flag.now under over ≡ joined (texts fields)) × (longest_day flag.now ≡ longest_fields fields)
 day-pieces response target flag under over = (refl, omega arith)
 
-pub day-line : (response : ℤ) (target : ℕ) (flag : List ℕ) (under over : ℕ)
-    → day_line_of response target flag under over ≡ day_values_of response target flag under over ++ (10 ∷ [])
-day-line response target flag under over = simp (append_assoc, append-nil)
-
 -- ---- the lines of a report: the first i are put
 
-pub record Lined (interval : ℕ) (report out : List ℕ) (at i next : ℕ) (after : List ℕ) : Type 0 where
+pub record Lined (interval : ℕ) (report : List ℕ) (w : Writer) (i : ℕ) (v : Writer) : Type 0 where
   pub within : i ≤ length report / 16
-  pub put : Put out at (records (line_at interval report) i) next after
+  pub put : Writes w (records (line_at interval report) i) v
 
--- the record of a point, as the code lends it
-pub record-at : (k : ℕ) (report : List ℕ) (i : ℕ) (d : List ℕ) → i < k → get_or (first_chunks 16 k report) i d ≡ take 16 (drop (16 * i) report)
-record-at zero report i d h = absurd (omega arith)
-record-at (suc k) report zero d h = refl
-record-at (suc k) report (suc i) d h =
+-- the first of the records that are left, as the code lends it
+pub first-left : (k : ℕ) (report : List ℕ) (i : ℕ) {r : List ℕ} {rest : List (List ℕ)} → drop i (first_chunks 16 k report) ≡ r ∷ rest
+    → (i < k) × (r ≡ take 16 (drop (16 * i) report)) × (rest ≡ drop (i + 1) (first_chunks 16 k report))
+first-left zero report zero e = absurd cc
+first-left zero report (suc i) e = absurd cc
+first-left (suc k) report zero e = (omega arith, cc, cc)
+first-left (suc k) report (suc i) e =
+    let rest = first-left k (drop 16 report) i e in
     let all : 16 + 16 * i ≡ 16 * suc i = omega arith in
-    record-at k (drop 16 report) i d (omega arith) ∙ ap (λ (l : List ℕ). take 16 l) (drop-drop (16 * i) 16 report)
-    ∙ ap (λ (m : ℕ). take 16 (drop m report)) all
+    let here = drop-drop (16 * i) 16 report ∙ ap (λ (m : ℕ). drop m report) all in
+    (omega (arith, rest.0), rest.1 ∙ ap (λ (l : List ℕ). take 16 l) here, rw (add-one (suc i)) (rw (add-one i) at rest.2))
 
-module _ (interval : ℕ) (report out : List ℕ) (at : ℕ) where
-  pub lined-none : Lined interval report out at 0 at out
+pub none-left : (k : ℕ) (report : List ℕ) (i : ℕ) → length (drop i (first_chunks 16 k report)) ≡ 0 → k ≤ i
+none-left zero report i e = omega arith
+none-left (suc k) report zero e = absurd (omega arith)
+none-left (suc k) report (suc i) e = omega (arith, none-left k (drop 16 report) i e)
+
+module _ (interval : ℕ) (report : List ℕ) (w : Writer) where
+  pub lined-none : Lined interval report w 0 w
   unfolding records
-  lined-none = record { within = omega arith; put = nothing out at }
+  lined-none = record { within = omega arith; put = nothing w }
 
-  module _ (i next : ℕ) (after : List ℕ) (room : Room out at (lines_of interval report)) (so : Lined interval report out at i next after) where
+  module _ (i : ℕ) (v : Writer) (room : RoomFor w (lines_of interval report)) (so : Lined interval report w i v) where
     module _ (h : i < length report / 16) where
-      room-more : Room out at (records (line_at interval report) i ++ line_at interval report i)
+      room-more : RoomFor w (records (line_at interval report) i ++ line_at interval report i)
       unfolding records lines_of
       room-more =
           let f = line_at interval report in
           let shorter = records-rise f (suc i) (length report / 16) h in
           record { fits = omega (arith, shorter, room.fits) }
 
-      pub lined-room : Room after next (line_of interval (i + 1) (take 16 (drop (16 * i) report)))
+      pub lined-room : RoomFor v (line_of interval (i + 1) (take 16 (drop (16 * i) report)))
       lined-room = rw (add-one i) (room-left so.put (line_at interval report i) room-more)
 
-      pub lined-more : (last : ℕ) (end : List ℕ) → Put after next (line_of interval (i + 1) (take 16 (drop (16 * i) report))) last end
-          → Lined interval report out at (i + 1) last end
+      pub lined-more : (u : Writer) → Writes v (line_of interval (i + 1) (take 16 (drop (16 * i) report))) u → Lined interval report w (i + 1) u
       unfolding records
-      lined-more last end put =
+      lined-more u put =
           record {
             within = omega arith;
             put = rw (add-one i) (then so.put room-more (rw (add-one i) at put));
           }
 
-    pub lined-all : length report / 16 ≤ i → Put out at (lines_of interval report) next after
+    pub lined-all : length report / 16 ≤ i → Writes w (lines_of interval report) v
     unfolding lines_of
     lined-all h =
         let e : i ≡ length report / 16 = omega (arith, so.within) in

@@ -45,9 +45,6 @@ module _ {out : List ℕ} {at : ℕ} where
           bytes = second.bytes ∙ rw first.bytes (put-put out at next xs ys (sym first.place) whole);
         }
 
-    pub same_length : Room out at xs → length after ≡ length out
-    same_length room = rw first.bytes (length-put out at xs room.fits)
-
 -- ---- bytes copied into a part that was lent
 
 pub copied : (out src part : List ℕ) (at : ℕ) → Room out at src → part ≡ src

@@ -1,11 +1,10 @@
 -- How long a text can be, and what a test of the room gives. Assumes nothing.
-use mathlib.Core.Path.{◌≡◌, refl, sym}
-use mathlib.Core.Bool.{Bool, true, false}
+use mathlib.Core.Path.{◌≡◌}
+use mathlib.Core.Bool.{true}
 use mathlib.Core.List.{List}
-use Prim.Native.Nat.{ℕ, suc, min, ◌+◌, ◌-◌, ◌*◌, ◌/◌, ◌^◌, ◌≤◌, ◌<◌}
+use Prim.Native.Nat.{ℕ, suc, ◌+◌, ◌*◌, ◌/◌, ◌^◌, ◌≤◌, ◌<◌}
 use native.Mathlib.Omega.{arith}
-use borrow.Author.Tests.{leb-true, leb-false, le-leb, lt-leb}
-use lib.Dec.{leb}
+use borrow.Author.Tests.{leb-true, le-leb}
 use lib.IntN.{ℤ, pos, negsuc}
 use lib.Signed.{mag}
 use lib.ListN.{length, get_or, take, drop, length-append, length-drop}
@@ -18,42 +17,14 @@ use Rattle.wire.specs.Fields.{word_at, whole_at}
 use Rattle.wire.proofs.Laws.{four}
 use Rattle.text.specs.Numbers.{decimal_of, whole_of}
 use Rattle.text.specs.Lines.{line_of, line_at, lines_of}
-use Rattle.text.specs.Puts.{Room, Put, PutWithin, has_room, most, longest_line, longest_lines}
+use Rattle.text.specs.Puts.{Room, Put, PutWithin, has_room, longest_line, longest_lines}
 use Rattle.text.proofs.Numbers.{length-decimal}
 
--- ---- the test
-
-leb-same : (a b c d : ℕ) → (a ≤ b → c ≤ d) → (c ≤ d → a ≤ b) → leb a b ≡ leb c d
-leb-same a b c d there back = go (leb a b) (leb c d) refl refl
-  where
-    go : (s t : Bool) → leb a b ≡ s → leb c d ≡ t → s ≡ t
-    go true true e f = refl
-    go true false e f = absurd (omega (arith, there (leb-true a b e), leb-false c d f))
-    go false true e f = absurd (omega (arith, back (leb-true c d f), leb-false a b e))
-    go false false e f = refl
-
-pub room-test : (size at room : ℕ) → at ≤ size → leb room (size - at) ≡ leb (at + room) size
-room-test size at room h = leb-same room (size - at) (at + room) size (λ l. omega arith) (λ l. omega arith)
-
-pub lines-test : (size at lines : ℕ) → at ≤ size → leb lines ((size - at) / 83) ≡ leb (at + longest_line * lines) size
-lines-test size at lines h = leb-same lines ((size - at) / 83) (at + 83 * lines) size (λ l. omega arith) (λ l. omega arith)
-
-pub no_room : (size at room : ℕ) → size < at → false ≡ leb (at + room) size
-no_room size at room h = sym (lt-leb (at + room) size (omega arith))
-
--- a room that is counted up to the greatest usize
-pub room-most : (room at : ℕ) (out : List ℕ) → length out < most → has_room (min most room) out at ≡ has_room room out at
-room-most room at out h = leb-same (at + min most room) (length out) (at + room) (length out) (λ l. omega arith) (λ l. omega arith)
+-- ---- what a test of the room gives
 
 module _ {room : ℕ} {out : List ℕ} {at : ℕ} {text : List ℕ} where
   pub room_by : has_room room out at ≡ true → length text ≤ room → Room out at text
   room_by e l = let h : at + room ≤ length out = leb-true (at + room) (length out) e in record { fits = omega arith }
-
-  pub within-put : {next : ℕ} {after : List ℕ} → has_room room out at ≡ true → Put out at text next after → PutWithin room out at text next after
-  within-put e put = record { place = rw e put.place; bytes = rw e put.bytes }
-
-  pub within_none : has_room room out at ≡ false → PutWithin room out at text at out
-  within_none e = record { place = rw e; bytes = rw e }
 
   -- a caller that knows that there is room
   pub put-within : {next : ℕ} {after : List ℕ} → at + room ≤ length out → PutWithin room out at text next after → Put out at text next after

@@ -3,3 +3,4 @@ pub mod Numbers
 pub mod Lines
 pub mod Puts
 pub mod Fields
+pub mod Writers

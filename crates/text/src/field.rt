@@ -1,9 +1,12 @@
 // A field of a line: words, or a number of some width.
-ghost use Rattle.std.specs.Prelude.{◌≡◌, ◌≤◌, length};
-ghost use Rattle.text.specs.Fields.{field_text, longest_field};
+ghost use Rattle.std.specs.Prelude.{◌≡◌, ◌≤◌, min, length};
+ghost use Rattle.text.specs.Lines.{joined};
+ghost use Rattle.text.specs.Puts.{most};
+ghost use Rattle.text.specs.Fields.{field_text, texts, longest_field, longest_fields};
 
 #[derive(Clone, Copy, Debug, PartialEq, Eq, Hash)]
 pub enum Field<'a> {
+    // Any bytes: a `&str` would ask more of the caller.
     Words(&'a [u8]),
     U8(u8),
     U32(u32),
@@ -14,7 +17,7 @@ pub enum Field<'a> {
 
 impl Field<'_> {
     // The most bytes that a field of its kind takes. The numbers have names because what a pattern binds is known to fit its type.
-    pub(crate) fn longest(&self) -> usize
+    fn longest(&self) -> usize
         ensures longest { result ≡ longest_field self.now }
         ensures within { length (field_text self.now) ≤ result }
     {
@@ -27,4 +30,19 @@ impl Field<'_> {
             Field::I64(_z) => 20,
         }
     }
+}
+
+// The longest text of the fields with one space between; the greatest usize where it is longer, since no buffer has room for either.
+pub(crate) fn longest(fields: &[Field]) -> usize
+    ensures longest { result ≡ min most (longest_fields fields.now) }
+    ensures within { length (joined (texts fields.now)) ≤ longest_fields fields.now }
+{
+    let [first, others @ ..] = fields else {
+        return 0;
+    };
+    let mut sum = first.longest();
+    for field in others {
+        sum = sum.saturating_add(1).saturating_add(field.longest());
+    }
+    sum
 }

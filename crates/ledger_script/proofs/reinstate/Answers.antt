@@ -4,7 +4,3 @@ use Rattle.ledger_script.proofs.reinstate.Goals as goal
 
 pub returns-in-Ok : goal.returns-in-Ok
 returns-in-Ok c = rw (sym c.reinstate.ensures.result ∙ c.in-Ok.is) (turned _ _ c.continues.ensures c.put_reinstated.ensures)
-
-pub returns-in-Err : goal.returns-in-Err
-returns-in-Err c =
-    rw (sym c.reinstate.ensures.result ∙ c.in-Err.is) (turned _ _ c.continues-in-Err.ensures (rw c.into.ensures at c.put_not_reinstated.ensures))

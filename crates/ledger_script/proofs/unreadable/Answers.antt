@@ -3,4 +3,4 @@ use Rattle.ledger_script.specs.Steps.{unread}
 use Rattle.ledger_script.proofs.unreadable.Goals as goal
 
 pub returns : goal.returns
-returns c = turned (unread c.args.state c.args.at) _ c.ends.ensures c.put_error.ensures
+returns c = turned (unread c.args.state c.args.at) _ c.ends.ensures c.put_numbered.ensures

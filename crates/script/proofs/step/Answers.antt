@@ -11,8 +11,8 @@ returns-then-is_empty c =
 
 pub returns-in-Some : goal.returns-in-Some
 returns-in-Some c =
-    rw (step-item c.args.m c.args.at c.args.call.now (eqb-false _ _ (sym c.if-is_empty.ensures)), sym c.in-Some.ensures.item) c.make.ensures
+    rw (step-item c.args.m c.args.at c.args.call.now (eqb-false _ _ (sym c.if-is_empty.ensures)), sym c.in-Some.ensures) (c.make.ensures c.args.at)
 
 pub returns-in-None : goal.returns-in-None
 returns-in-None c =
-    rw (step-item c.args.m c.args.at c.args.call.now (eqb-false _ _ (sym c.if-is_empty.ensures)), sym c.in-None.ensures.item) c.unreadable.ensures
+    rw (step-item c.args.m c.args.at c.args.call.now (eqb-false _ _ (sym c.if-is_empty.ensures)), sym c.in-None.ensures) c.unreadable.ensures

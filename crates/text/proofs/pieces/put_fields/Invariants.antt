@@ -1,9 +1,0 @@
--- After i turns the first i of the other fields are put.
-use Rattle.std.proofs.Common.{take}
-use Rattle.text.specs.Lines.{behind}
-use Rattle.text.specs.Puts.{Put}
-use Rattle.text.specs.Fields.{texts}
-use Rattle.text.proofs.pieces.put_fields.Given as goal
-
-abbrev pub invariant-loop-field : goal.invariant-loop-field
-invariant-loop-field l = Put l.initial.out l.initial.next (behind (texts (take l.field-index l.others))) l.next l.out
