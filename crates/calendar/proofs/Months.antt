@@ -4,7 +4,7 @@ use mathlib.Core.Bool.{Bool, true, false, cond, ◌&&◌, ◌||◌}
 use mathlib.Core.List.{List, [], ◌∷◌}
 use Prim.Native.Nat.{ℕ, zero, suc, ◌+◌, ◌-◌, ◌≤◌}
 use native.Mathlib.Omega.{arith}
-use borrow.Author.Tests.{eqb-true, leb-true}
+use borrow.Author.Tests.{eqb-true}
 use lib.Dec.{eqb, leb}
 use lib.ListN.{get_or}
 use Rattle.std.specs.Int.{from_bool}
@@ -32,34 +32,24 @@ row-right : (leap : Bool) → every (right leap) 13 ≡ true
 row-right false = and_l (every (right false) 13) (every (right true) 13) all_right
 row-right true = and_r (every (right false) 13) (every (right true) 13) all_right
 
--- what the code promises of an entry that it takes for a month of such a year
-abbrev pub Before : Bool → ℕ → ℕ → Type 0
-Before leap month entry = (entry ≡ days_before leap month) × (entry ≤ 366)
+-- an entry, and as the code finds it: the row by the number of the `bool`
+entry : (leap : Bool) (k : ℕ) → k ≤ 12 → get_or (row leap) k 0 ≡ days_of_months leap k
+entry leap k most =
+    let is = eqb (get_or (row leap) k 0) (days_of_months leap k) in
+    eqb-true _ _ (and_l is (leb (get_or (row leap) k 0) 366) (every-at (right leap) 13 (row-right leap) k (omega arith)))
 
-pub before-month : (leap : Bool) (month : ℕ) → 1 ≤ month → month ≤ 13 → Before leap month (get_or (row leap) (month - 1) 0)
-before-month leap month least most =
-    let k = month - 1 in
-    let e = every-at (right leap) 13 (row-right leap) k (omega arith) in (
-      eqb-true (get_or (row leap) k 0) (days_of_months leap k) (and_l (eqb (get_or (row leap) k 0) (days_of_months leap k)) (leb (get_or (row leap) k 0) 366) e),
-      leb-true (get_or (row leap) k 0) 366 (and_r (eqb (get_or (row leap) k 0) (days_of_months leap k)) (leb (get_or (row leap) k 0) 366) e),
-    )
-
--- as the code finds it: the row by the number of the `bool`
-pub table-entry : (leap : Bool) (n month : ℕ) → n ≡ from_bool leap → 1 ≤ month → month ≤ 13
-    → get_or (get_or (row false ∷ row true ∷ []) n []) (month - 1) 0 ≡ days_before leap month
-table-entry false n month e least most = rw e (before-month false month least most).0
-table-entry true n month e least most = rw e (before-month true month least most).0
+pub table-entry : (leap : Bool) (n k : ℕ) → n ≡ from_bool leap → k ≤ 12
+    → get_or (get_or (row false ∷ row true ∷ []) n []) k 0 ≡ days_of_months leap k
+table-entry false n k e most = rw e (entry false k most)
+table-entry true n k e most = rw e (entry true k most)
 
 -- ---- a month
 
--- the days before the next one are those before this one and its own
-pub next-before : (leap : Bool) (month : ℕ) → 1 ≤ month → days_before leap (month + 1) ≡ days_before leap month + month_length leap month
+-- the days through it are those before it and its own
+pub through-month : (leap : Bool) (month : ℕ) → 1 ≤ month → days_of_months leap month ≡ days_before leap month + month_length leap month
 unfolding days_of_months
-next-before leap zero l = absurd (omega arith)
-next-before leap (suc k) l =
-    let here : suc k - 1 ≡ k = omega arith in
-    let next : suc k + 1 - 1 ≡ suc k = omega arith in
-    rw (next, here)
+through-month leap zero l = absurd (omega arith)
+through-month leap (suc k) l = let here : suc k - 1 ≡ k = omega arith in rw here
 
 -- no month has fewer days than 28, or more than 31
 abbrev usual : ℕ → Type 0

@@ -11,7 +11,7 @@ use Rattle.trace.proofs.Tests.{chosen}
 use Rattle.calendar.specs.Dates.{is_leap, month_length, days_of_months, days_before, is_date, moved_to, three_months_later}
 use Rattle.calendar.specs.Ordinals.{days_of_years, ordinal_of, Placed}
 use Rattle.calendar.specs.declared.Date.{Date}
-use Rattle.calendar.proofs.Months.{next-before, length-within}
+use Rattle.calendar.proofs.Months.{through-month, length-within}
 use Rattle.calendar.proofs.Places.{day-within, date-placed, later-placed}
 
 pub data Earlier (a b : Date) : Type 0 where
@@ -54,9 +54,7 @@ module _ (date : Date) (d : Dated date) where
   -- no later than its month's last day
   month-end : in_year date ≤ days_of_months leap date.month
   month-end =
-      let next = next-before leap date.month d.placed.month_least in
-      let same : date.month + 1 - 1 ≡ date.month = omega arith in
-      omega (arith, rw same at next, d.within.1)
+      omega (arith, through-month leap date.month d.placed.month_least, d.within.1)
 
   -- no later than its year's
   year-end : ordinal_of date ≤ days_of_years (suc (date.year - 2000))

@@ -75,7 +75,7 @@ later-placed date e = go (ltb date.month 10) refl
         let l = ltb-false date.month 10 h in
         moved-placed date _ _ (omega (arith, y)) (omega (arith, y)) (omega arith) (omega (arith, p.month_most))
 
--- an ordinal is at least 1, so 0 can stand for no date
+-- an ordinal is at least 1, so `latest_of` of the proofs of `ledger` can be 0 for no date
 pub ordinal-least : (date : Date) → is_date date ≡ true → 1 ≤ ordinal_of date
 unfolding ordinal_of
 ordinal-least date e = omega (arith, day-within date e)

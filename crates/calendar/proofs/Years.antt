@@ -3,12 +3,12 @@ use mathlib.Core.Path.{◌≡◌, refl}
 use mathlib.Core.Bool.{Bool, true, ◌&&◌}
 use Prim.Native.Nat.{ℕ, ◌+◌, ◌*◌, ◌≤◌}
 use native.Mathlib.Omega.{arith}
-use borrow.Author.Tests.{eqb-true, leb-true}
+use borrow.Author.Tests.{eqb-true}
 use lib.Dec.{eqb, leb}
 use Rattle.std.specs.Int.{div_ceil}
 use Rattle.trace.specs.Sweeps.{every}
 use Rattle.trace.proofs.Sweeps.{every-at}
-use Rattle.trace.proofs.Tests.{and_l, and_r}
+use Rattle.trace.proofs.Tests.{and_l}
 use Rattle.calendar.specs.Dates.{is_leap, month_length, days_of_months}
 use Rattle.calendar.specs.Ordinals.{days_of_years}
 
@@ -28,6 +28,3 @@ module _ (years : ℕ) (l : years ≤ 100) where
 
   pub years-value : quick years ≡ days_of_years years
   years-value = eqb-true (quick years) (days_of_years years) (and_l (eqb (quick years) (days_of_years years)) (leb (quick years) 36525) holds)
-
-  pub years-small : quick years ≤ 36525
-  years-small = leb-true (quick years) 36525 (and_r (eqb (quick years) (days_of_years years)) (leb (quick years) 36525) holds)

@@ -3,7 +3,7 @@
 #![tactic(auto)]
 
 ghost use Rattle.std.specs.Prelude.{◌≡◌, true, ◌≤◌};
-ghost use Rattle.calendar.specs.Dates.{is_leap, month_length, days_before, is_month, is_date, moved_to, three_months_later};
+ghost use Rattle.calendar.specs.Dates.{is_leap, month_length, days_of_months, days_before, is_month, is_date, moved_to, three_months_later};
 ghost use Rattle.calendar.specs.Ordinals.{days_of_years, ordinal_of, found_of, Placed};
 
 // Any three numbers: month 1 is January.
@@ -21,6 +21,14 @@ pub struct Window {
     pub end: u32,
 }
 
+// A month of a year: 1 is January.
+#[derive(Clone, Copy, Debug, PartialEq, Eq, Hash)]
+struct Month {
+    year: u32,
+    month: u32,
+    ghost in_year: { (1 ≤ month) × (month ≤ 12) },
+}
+
 // The days before each month, and before the end of the year, of a common year and of a leap year.
 const DAYS_BEFORE: [[u32; 13]; 2] = [
     [0, 31, 59, 90, 120, 151, 181, 212, 243, 273, 304, 334, 365],
@@ -34,20 +42,29 @@ fn is_leap(year: u32) -> bool
     year % 4 == 0 && (year % 100 != 0 || year % 400 == 0)
 }
 
-// Month 13 is the end of the year.
-fn days_before(year: u32, month: u32) -> u32
-    requires { (1 ≤ month) × (month ≤ 13) }
-    ensures value { result ≡ days_before (is_leap year) month }
+// The days of the first months of a year.
+fn days_of_months(year: u32, months: u32) -> u32
+    requires { months ≤ 12 }
+    ensures value { result ≡ days_of_months (is_leap year) months }
     ensures small { result ≤ 366 }
 {
-    DAYS_BEFORE[usize::from(is_leap(year))][(month - 1) as usize]
+    // std has no `From<u32>` for usize, and `try_from` would have a case that cannot be.
+    DAYS_BEFORE[usize::from(is_leap(year))][months as usize]
 }
 
-fn month_length(year: u32, month: u32) -> u32
-    requires { (1 ≤ month) × (month ≤ 12) }
-    ensures { result ≡ month_length (is_leap year) month }
-{
-    days_before(year, month + 1) - days_before(year, month)
+impl Month {
+    fn days_before(self) -> u32
+        ensures value { result ≡ days_before (is_leap self.year) self.month }
+        ensures small { result ≤ 366 }
+    {
+        days_of_months(self.year, self.month - 1)
+    }
+
+    fn length(self) -> u32
+        ensures { result ≡ month_length (is_leap self.year) self.month }
+    {
+        days_of_months(self.year, self.month) - self.days_before()
+    }
 }
 
 // The days of the years from 2000 on, every fourth of which is a leap year as far as this goes.
@@ -66,23 +83,33 @@ impl Date {
         (2000..=2099).contains(&self.year) && (1..=12).contains(&self.month)
     }
 
+    // The month that it lies in.
+    fn in_month(self) -> Month
+        requires { (1 ≤ self.month) × (self.month ≤ 12) }
+        ensures { (result.year ≡ self.year) × (result.month ≡ self.month) }
+    {
+        Month {
+            year: self.year,
+            month: self.month,
+        }
+    }
+
     #[tactic(auto, unfolding(crate::specs::Dates::is_date))]
     fn is_date(self) -> bool
         ensures { result ≡ is_date self }
     {
-        self.is_month() && (1..=month_length(self.year, self.month)).contains(&self.day)
+        self.is_month() && (1..=self.in_month().length()).contains(&self.day)
     }
 
     // The same day number in another month, or that month's last day.
     #[tactic(auto, unfolding(crate::specs::Dates::moved_to))]
-    fn moved_to(self, year: u32, month: u32) -> Date
-        requires { (1 ≤ month) × (month ≤ 12) }
-        ensures { result ≡ moved_to self year month }
+    fn moved_to(self, month: Month) -> Date
+        ensures { result ≡ moved_to self month.year month.month }
     {
         Date {
-            year,
-            month,
-            day: self.day.min(month_length(year, month)),
+            year: month.year,
+            month: month.month,
+            day: self.day.min(month.length()),
         }
     }
 
@@ -92,9 +119,15 @@ impl Date {
         ensures { result ≡ three_months_later self }
     {
         if self.month < 10 {
-            self.moved_to(self.year, self.month + 3)
+            self.moved_to(Month {
+                year: self.year,
+                month: self.month + 3,
+            })
         } else {
-            self.moved_to(self.year + 1, self.month - 9)
+            self.moved_to(Month {
+                year: self.year + 1,
+                month: self.month - 9,
+            })
         }
     }
 
@@ -103,7 +136,7 @@ impl Date {
         requires { Placed self }
         ensures { result ≡ ordinal_of self }
     {
-        days_of_years(self.year - 2000) + (days_before(self.year, self.month) + self.day)
+        days_of_years(self.year - 2000) + (self.in_month().days_before() + self.day)
     }
 }
 

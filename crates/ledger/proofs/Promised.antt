@@ -1,8 +1,9 @@
 -- What holds of every list of calls from the empty ledger on. Assumes nothing.
 use mathlib.Core.Path.{◌≡◌, refl, sym, ap, ◌∙◌}
 use mathlib.Core.Logic.{◌↔◌}
-use mathlib.Core.Bool.{true, false, false≢true}
+use mathlib.Core.Bool.{Bool, true, false, false≢true}
 use mathlib.Core.List.{List, [], ◌∷◌, map}
+use Prim.Native.Nat.{ℕ}
 use Rattle.std.specs.Prelude.{Option, Some, None}
 use Rattle.trace.specs.Lists.{outcomes}
 use Rattle.trace.specs.Refusals.{answered_by, result_number}
@@ -64,6 +65,6 @@ begins =
     }
 
 -- as the code makes it
-pub begins-with : (earlier latest : Option Instance) → earlier ≡ None → latest ≡ None
-    → Begins (record { latest = None; instances = record { earlier = earlier; latest = latest }; declared = false })
-begins-with earlier latest a b = rw (a, b) begins
+pub begins-with : (day : Option ℕ) (earlier latest : Option Instance) (declared : Bool) → day ≡ None → earlier ≡ None → latest ≡ None
+    → declared ≡ false → Begins (record { latest = day; instances = record { earlier = earlier; latest = latest }; declared = declared })
+begins-with day earlier latest declared a b c d = rw (a, b, c, d) begins

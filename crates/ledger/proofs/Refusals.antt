@@ -10,7 +10,8 @@ use Rattle.calendar.specs.Ordinals.{ordinal_of, window_of}
 use Rattle.calendar.specs.declared.Date.{Date}
 use Rattle.response.specs.declared.Day.{Day}
 use Rattle.ledger.specs.Days.{conduct_of}
-use Rattle.ledger.specs.Ledgers.{entered, reinstated, not_after, refusal_number, day_refusal, reinstate_refusal, enter_of, reinstate_of, answer_number, Answered}
+use Rattle.ledger.specs.Ledgers.{entered, reinstated, not_after, refusal_number, day_refusal, reinstate_refusal}
+use Rattle.ledger.specs.Ledgers.{enter_of, reinstate_of, answer_number, Answered}
 use Rattle.ledger.specs.declared.Ledger.{Ledger}
 use Rattle.ledger.specs.declared.LedgerRefusal.{LedgerRefusal}
 use Rattle.ledger.specs.declared.LedgerRefusal.TheVariants.{NoDate, NotLater, NotDeclared}

@@ -28,7 +28,7 @@ pub struct Instances {
 }
 
 // `latest` is the ordinal of the last accepted date. Any values make a ledger: no call asks anything of them.
-#[derive(Clone, Copy, Debug, PartialEq, Eq, Hash)]
+#[derive(Clone, Copy, Debug, Default, PartialEq, Eq, Hash)]
 pub struct Ledger {
     pub latest: Option<u32>,
     pub instances: Instances,
@@ -65,15 +65,12 @@ impl From<LedgerRefusal> for u32 {
     }
 }
 
-// No date, no instance, not declared.
+// No date, no instance, not declared. It is the default, which promises no more than its values: this promises what holds of every list of
+// calls from it on.
 pub fn new_ledger() -> Ledger
     ensures { Begins result }
 {
-    Ledger {
-        latest: None,
-        instances: Instances::default(),
-        declared: false,
-    }
+    Ledger::default()
 }
 
 // ---- a day

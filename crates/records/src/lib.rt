@@ -106,6 +106,7 @@ impl Interval {
     }
 }
 
+// `matches!` at their uses was tried: the proof of `response::totals::Totals::plus` met both matches at once, and did not close.
 pub fn is_under(flag: Option<Flag>) -> bool
     ensures { result ≡ is_under flag }
 {
@@ -120,6 +121,7 @@ pub fn is_over(flag: Option<Flag>) -> bool
 
 // ---- every record
 
+// The earlier target and the records stay apart, as the caller has them: a struct would be one more name for the two, made to be taken apart.
 pub fn day_bounded(earlier: u32, records: &[u8; RECORD_BYTES]) -> bool
     ensures { result ≡ day_bounded earlier records.now }
 {

@@ -1,5 +1,4 @@
 -- What belongs to no one function.
-pub mod Counts
 pub mod Flags
 pub mod Sums
 pub mod Refusals

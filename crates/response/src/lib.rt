@@ -1,5 +1,5 @@
-// A day of wholesale demand response (02, 2026-04; source 002, section 3): its sums, its flag and its counts of flagged intervals, or
-// the number of its refusal. It keeps nothing from one day to the next.
+// A day of wholesale demand response (02, 2026-04; source 002, section 3): its sums, its flag and its counts of flagged intervals, or why
+// it is refused. It keeps nothing from one day to the next.
 #![tactic(auto)]
 
 mod totals;
@@ -60,7 +60,7 @@ fn day_flag(response: i64, target: u32) -> Option<Flag>
     }
 }
 
-// A day that is not refused.
+// A day that is not refused. The earlier target and the records stay apart: `records::day_bounded` says why.
 #[tactic(auto, unfolding(crate::specs::Days::day_of, crate::specs::Totals::totals_of))]
 fn assessed(earlier: u32, records: &[u8; RECORD_BYTES]) -> Day
     requires { day_bounded earlier records.now ≡ true }
@@ -76,7 +76,7 @@ fn assessed(earlier: u32, records: &[u8; RECORD_BYTES]) -> Day
     }
 }
 
-// The day whose records these are, after one whose last target was `earlier`.
+// The day whose records these are, after one whose last target was `earlier`. The two stay apart: `records::day_bounded` says why.
 pub fn assess_day(earlier: u32, records: &[u8]) -> Result<Day, DayRefusal>
     ensures { Answers (answer_of earlier records.now) (day_refusal earlier records.now) result }
 {
@@ -93,8 +93,8 @@ pub fn assess_day(earlier: u32, records: &[u8]) -> Result<Day, DayRefusal>
 pub fn assess_file(bytes: &[u8]) -> Result<Day, DayRefusal>
     ensures { Answers (file_answer bytes.now) (file_refusal bytes.now) result }
 {
-    if bytes.len() < 4 {
+    let Some((earlier, records)) = bytes.split_first_chunk::<4>() else {
         return Err(DayRefusal::Size);
-    }
-    assess_day(wire::word_at(bytes, 0), &bytes[4..])
+    };
+    assess_day(u32::from_le_bytes(*earlier), records)
 }

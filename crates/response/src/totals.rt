@@ -36,6 +36,7 @@ impl Totals {
     }
 }
 
+// The earlier target and the records stay apart: `records::day_bounded` says why.
 pub(crate) fn sum_up(earlier: u32, records: &[u8; RECORD_BYTES]) -> Totals
     requires { day_bounded earlier records.now ≡ true }
     ensures { result ≡ totals_of earlier records.now 288 }
