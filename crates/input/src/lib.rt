@@ -8,8 +8,9 @@ use std::io::Read;
 use std::rt::Files;
 use std::str;
 
-// Reads until `bytes` is full, the input ends or a read fails, and returns how many bytes it put at the start. `Read::read_exact` does
-// not say how many where the input ends.
+// Reads until `bytes` is full, the input ends or a read fails, and returns how many bytes it put at the start.
+//
+// The loop counts, since `Read::read_exact` does not say how many bytes came before the end.
 pub fn read_full<R: Read>(reader: &mut R, bytes: &mut [u8]) -> usize
     ensures in_bounds { result ≤ length bytes.new }
     ensures prefix { result ≡ length (take result bytes.new) }
@@ -24,8 +25,9 @@ pub fn read_full<R: Read>(reader: &mut R, bytes: &mut [u8]) -> usize
     done
 }
 
-// The file's first bytes, as many as it has and `bytes` has room for. A file that cannot be opened, or not read, counts as empty, and so
-// does one whose path is no text, since paths are text.
+// The file's first bytes, as many as it has and `bytes` has room for. A file that cannot be opened, or not read, counts
+// as empty, and so does one whose path is no text, since paths are text. The path is bytes, since a `&str` would ask
+// text of callers.
 pub fn read<R: Files>(rt: &R, path: &[u8], bytes: &mut [u8]) -> usize
     ensures in_bounds { result ≤ length bytes.new }
     ensures prefix { result ≡ length (take result bytes.new) }

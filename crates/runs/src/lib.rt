@@ -1,10 +1,12 @@
-// Runs of the programs: a part of the file is read, a step is made of it and its text is written, before the next part is read.
+// Runs of the programs: a part of the file is read, a step is made of it and its text is written, before the next part
+// is read.
 //
 // A step is proved where it is declared. Reading, writing and going on are left: no contract can say what a file holds.
 #![tactic(auto)]
 
 ghost use Rattle.std.specs.Prelude.{◌≤◌, IsTrue};
 
+use output::Output;
 use std::convert::AsSlice;
 use std::io::{Eprint, Print, Read};
 use turns::Turn;
@@ -40,20 +42,24 @@ impl<R: Read> Parts for Blocks<R> {
     }
 }
 
-// Writes a step's text, which is the first bytes of `out`, in one write, and says whether the run goes on: it ends where the step says so,
-// and where the write fails.
-pub fn write<R: Print + Eprint, S: Copy>(rt: &R, what: &[u8], turn: Turn<S>, out: &[u8]) -> bool
+// Writes a step's text, which is the first bytes of `out`, in one write, and says whether the run goes on: it ends
+// where the step says so, and where the write fails.
+pub fn write<R: Print + Eprint, S: Copy>(output: &Output<R>, turn: Turn<S>, out: &[u8]) -> bool
     ensures { IsTrue result → IsTrue turn.more }
 {
     let Some(text) = out.get(..turn.length) else {
         return false;
     };
-    output::write(rt, what, text) && turn.more
+    output.write(text) && turn.more
 }
 
-// Step after step, until `write` says that the run ends. A step is given the place of its part in the file. A proved loop has to end, and
-// nothing says that a file does, so the steps are counted, to a million million, which no run uses up.
-pub fn run<R, P, S, B, F>(rt: &R, what: &[u8], mut parts: P, start: S, mut out: B, step: F)
+// Step after step, until `write` says that the run ends. A step is given the place of its part in the file. A proved
+// loop has to end, and nothing says that a file does, so the steps are counted, to a million million, which no run uses
+// up.
+//
+// The programs share this; the `main` of each names its own file, state and step. It promises nothing: no contract can
+// say what a file holds, and so which steps are made.
+pub fn run<R, P, S, B, F>(output: &Output<R>, mut parts: P, start: S, mut out: B, step: F)
 where
     R: Print + Eprint,
     P: Parts + Drop,
@@ -62,16 +68,17 @@ where
     F: Fn(S, u64, &[u8], &mut B) -> Turn<S> + Drop,
     requires { F.IsAlwaysCallable step }
 {
-    let mut bytes = frames::room();
+    let mut bytes = [0; frames::ROOM];
     let mut state = start;
     let mut at = 0;
     for _ in 0..1_000_000_000_000u64 {
         let taken = parts.next(&mut bytes);
         let turn = step(state, at, &bytes[..taken], &mut out);
-        if !write(rt, what, turn, out.as_slice()) {
+        if !write(output, turn, out.as_slice()) {
             return;
         }
         state = turn.state;
+        // A cast: std has no `From` from usize to u64, and `try_from` would add a case that cannot be.
         at += taken as u64;
     }
 }

@@ -1,41 +1,15 @@
-// Reads registers and units' lines as `tools/trial_passes.py` writes them and prints what a pass over each aggregate's members gives.
+// Reads registers and units' lines as `tools/trial_passes.py` writes them and prints what a pass over each aggregate's
+// members gives.
 #![tactic(auto)]
 
-ghost use Rattle.std.specs.Prelude.{◌≡◌, ℕ, ◌<◌, length, get_or, IfSome, None};
-ghost use Rattle.marks.specs.Bounds.{SmallSight};
-ghost use Rattle.aggregates.specs.Views.{view_of, SmallView};
+ghost use Rattle.std.specs.Prelude.{ℕ, ◌<◌, length, get_or, IfSome, None};
+ghost use Rattle.aggregates.specs.Views.{SmallView};
 
 use aggregates::View;
-use kinds::Kind;
-use marks::Sight;
 use passes::Pass;
 use plants::Roster;
 use std::io::Print;
 use std::{array, io};
-
-// A unit by a sample: 1 where a line is kept, this interval's line and the one before it. No bytes are an unreadable line, of which nothing
-// is kept.
-#[tactic(auto, using(marks::proofs::Small::line_small, marks::proofs::Small::kept_small))]
-fn sight_of(sample: &[u8; 81], kind: Option<Kind>, chained: bool) -> Sight
-    ensures { SmallSight result }
-{
-    let line = telemetry::read_line(kind, chained, &sample[1..41]);
-    let before: &[u8] = if sample[0] == 1 { &sample[41..] } else { &[] };
-    Sight {
-        kind,
-        line,
-        kept: marks::kept_from(telemetry::read_line(kind, chained, before)),
-    }
-}
-
-// A unit as a pass takes it.
-#[tactic(auto, unfolding(aggregates::specs::Views::view_of, aggregates::specs::Views::line_view))]
-fn view_of(unit: Sight) -> Option<View>
-    ensures { result ≡ view_of unit }
-{
-    let line = marks::measure(unit.line?);
-    Some(aggregates::view_of(unit.kind, line, unit.kept))
-}
 
 // What is seen of the units. A unit's pick says which sample it has. Picks come round again, and so do samples.
 fn views(roster: &Roster, samples: &[[u8; 81]], picks: &[u8]) -> [Option<View>; 64]
@@ -45,7 +19,7 @@ fn views(roster: &Roster, samples: &[[u8; 81]], picks: &[u8]) -> [Option<View>; 
     array::from_fn(|i| {
         let pick = usize::from(picks[i % picks.len()]);
         let sample = &samples[pick % samples.len()];
-        view_of(sight_of(sample, roster.kinds[i], roster.chained[i]))
+        samples::view_of(samples::sight_of(sample, roster.kinds[i], roster.chained[i]))
     })
 }
 
@@ -82,8 +56,8 @@ fn print_case<R: Print>(
     Ok(())
 }
 
-// A case is a label, a register, samples with their number before them, and picks with theirs. No label is empty: a zero ends the cases of a
-// block.
+// A case is a label, a register, samples with their number before them, and picks with theirs. No label is empty: a
+// zero ends the cases of a block.
 fn run_case<R: Print>(rt: &R, cases: &mut &[u8]) -> Option<io::Result<()>> {
     let label = trials::label(cases)?;
     let register = trials::long_sized(cases)?;

@@ -1,5 +1,6 @@
-// Reads registers from standard input and prints a line for each. A case is a byte with the length of its label, the label, the
-// register's length in two bytes, the low one first, and the register. tools/trial_register.py makes the cases and the lines.
+// Reads registers from standard input and prints a line for each. A case is a byte with the length of its label, the
+// label, the register's length in two bytes, the low one first, and the register. tools/trial_register.py makes the
+// cases and the lines.
 #![tactic(auto)]
 
 use std::io;

@@ -5,6 +5,7 @@ use std::io;
 use std::io::Print;
 use telemetry::{Fields, Reading};
 
+// Words that this program alone prints, so they are no `Display` of `telemetry`.
 fn quality_of(reading: Reading) -> &'static str {
     match reading {
         Reading::Good(_) => "good",

@@ -12,7 +12,7 @@ fn print_line<R: Print>(rt: &R, bytes: &[u8]) -> io::Result<()> {
 
 fn print_field<R: Print>(rt: &R, field: Field) -> io::Result<()> {
     let mut out = [0; 32];
-    let next = text::put(&mut out, 0, field);
+    let next = text::put_fields(&mut out, 0, &[field]);
     print_line(rt, out.get(..next).unwrap_or(&[]))
 }
 
@@ -25,7 +25,7 @@ fn print_buffer<R: Print>(rt: &R, next: usize, bytes: &[u8]) -> io::Result<()> {
 // A signed number takes at most 11 bytes, so it is put into 12 from place 0 or 1 alone.
 fn whole_at<R: Print>(rt: &R, at: usize) -> io::Result<()> {
     let mut bytes = [b'.'; 12];
-    let next = text::put(&mut bytes, at, Field::I32(-128000000));
+    let next = text::put_fields(&mut bytes, at, &[Field::I32(-128000000)]);
     print_buffer(rt, next, &bytes)
 }
 

@@ -11,7 +11,8 @@ const BLOCK: usize = 65536;
 
 const BLOCKS: usize = 4;
 
-// Bytes with their number before them, in one byte.
+// Bytes with their number before them, in one byte. Here and in `long_sized` their numbers are read from one byte and from two, by no common
+// method.
 pub fn sized<'a>(cases: &mut &'a [u8]) -> Option<&'a [u8]>
     ensures bytes { IfSome result (λ part. cases.old.now ≡ length part.now ∷ (part.now ++ cases.new.now)) }
     ensures variant { IsSome result ↔ (1 + get_or cases.old.now 0 0 ≤ length cases.old.now) }
@@ -36,7 +37,10 @@ pub fn label<'a>(cases: &mut &'a [u8]) -> Option<&'a str>
     str::from_utf8(sized(cases)?).ok()
 }
 
-// Runs `case` on what is left of a block until there is no further case in it.
+// Runs `case` on what is left of a block until there is no further case in it. This is all that the `main` functions of
+// the trials share; each of them names its own case.
+//
+// It promises nothing: no contract can say what standard input holds, and so which cases are run.
 pub fn run<I: Read, F: Fn(&mut &[u8]) -> Option<io::Result<()>> + Drop>(
     input: &mut I,
     case: F,
