@@ -79,7 +79,7 @@ fn read_payload(tag: u32, payload: &[u8]) -> Option<Call<'_>>
     }
 }
 
-// A call by all of its bytes, where they are one.
+// A call by all of its bytes, where they are one. What the two lists of calls share of this is `frames::parts`.
 #[tactic(auto, unfolding(crate::specs::Items::item_of))]
 pub(crate) fn read(bytes: &[u8]) -> Option<Call<'_>>
     ensures { item_read result ≡ item_of bytes.now }

@@ -38,7 +38,8 @@ pub fn label<'a>(cases: &mut &'a [u8]) -> Option<&'a str>
 }
 
 // Runs `case` on what is left of a block until there is no further case in it. This is all that the `main` functions of
-// the trials share; each of them names its own case.
+// the trials share; each of them names its own case, whose function has what it prints to beside the cases: the closure
+// holds the one, and is given the others.
 //
 // It promises nothing: no contract can say what standard input holds, and so which cases are run.
 pub fn run<I: Read, F: Fn(&mut &[u8]) -> Option<io::Result<()>> + Drop>(
