@@ -24,7 +24,7 @@ pub fn interval_size(m: Monitor) -> usize
 
 // The bytes of its report. No register has more than 16 aggregates.
 #[tactic(auto, unfolding(plants::specs::Rosters::no_roster))]
-fn report_size(m: &Monitor) -> usize
+pub fn report_size(m: &Monitor) -> usize
     ensures { result ≡ room_of m.now }
 {
     let roster = m.roster.unwrap_or_default();

@@ -1,7 +1,8 @@
-//! `month PLANT DIR [COUNT]`: writes DIR/register.bin and DIR/intervals.bin of plant 0 to 3, with COUNT interval buffers
-//! or a month of them, every five minutes for 31 days.
+//! `month PLANT DIR [COUNT]`: writes DIR/register.bin and DIR/intervals.bin of plant 0 to 5, with COUNT interval
+//! buffers or a month of them, every five minutes for 31 days.
 //!
-//! The buffers are those that `bench` works through.
+//! The buffers are those that `bench` works through. Its counterpart in Rattle, bench_monitor, is given those of a COUNT
+//! of 16 (tools/bench_input).
 
 use conformance::bench_input::{patch, BenchPlant, BUFFERS, PLANTS};
 use std::fs::File;
@@ -30,7 +31,7 @@ fn main() -> ExitCode {
         [plant, folder, count] => (plant, folder, count.parse()),
         _ => return usage(),
     };
-    let (Ok(plant @ 0..=3), Ok(count)) = (plant.parse::<usize>(), count) else { return usage() };
+    let (Ok(plant @ 0..=5), Ok(count)) = (plant.parse::<usize>(), count) else { return usage() };
     match write(PLANTS[plant], Path::new(folder), count) {
         Ok(()) => ExitCode::SUCCESS,
         Err(error) => {
