@@ -23,7 +23,7 @@ pub fn is_load(kind: Option<Kind>) -> bool
 
 // A member whose line is readable, as its aggregate's sums take it, in whole kW: whether it is a load, its conformance mode is not 0, it can be
 // assessed and its value is substituted; MWB, MW, MWO and both rates of this line; and the line kept before it.
-#[derive(Clone, Copy, Debug, PartialEq, Eq, Hash)]
+#[derive(Clone, Copy)]
 pub struct View {
     pub load: bool,
     pub monitored: bool,
@@ -78,7 +78,7 @@ impl View {
 
 // Of the members so far: whether every line is readable, some conformance mode is not 0, every member can be assessed, and some
 // value is substituted.
-#[derive(Clone, Copy, Debug, PartialEq, Eq, Hash)]
+#[derive(Clone, Copy)]
 pub struct Flags {
     pub readable: bool,
     pub monitored: bool,
@@ -87,7 +87,7 @@ pub struct Flags {
 }
 
 // Signed sums of this interval's MWB and MW.
-#[derive(Clone, Copy, Debug, Default, PartialEq, Eq, Hash)]
+#[derive(Clone, Copy, Default)]
 pub struct Present {
     pub target: i64,
     pub power: i64,
@@ -95,7 +95,7 @@ pub struct Present {
 
 // Sums over kept lines: signed MWB, and FCR and FCL, in 64 bits as a basis has them. `Target` of `targets` has the widths of a line, since a
 // state holds it.
-#[derive(Clone, Copy, Debug, Default, PartialEq, Eq, Hash)]
+#[derive(Clone, Copy, Default)]
 pub struct KeptSums {
     pub target: i64,
     pub raise: i64,
@@ -103,7 +103,7 @@ pub struct KeptSums {
 }
 
 // An aggregate's members so far. `supply` is over generating and bidirectional units, `loads` over loads. No chain has a semi-scheduled unit.
-#[derive(Clone, Copy, Debug, PartialEq, Eq, Hash)]
+#[derive(Clone, Copy)]
 pub struct Sums {
     pub flags: Flags,
     pub present: Present,

@@ -7,7 +7,7 @@ ghost use Rattle.calendar.specs.Dates.{is_leap, month_length, days_of_months, da
 ghost use Rattle.calendar.specs.Ordinals.{days_of_years, ordinal_of, found_of, Placed};
 
 // Any three numbers: month 1 is January.
-#[derive(Clone, Copy, Debug, PartialEq, Eq, Hash)]
+#[derive(Clone, Copy, Debug, PartialEq, Eq)]
 pub struct Date {
     pub year: u32,
     pub month: u32,
@@ -15,14 +15,14 @@ pub struct Date {
 }
 
 // The ordinals of a date and of the date three months later.
-#[derive(Clone, Copy, Debug, PartialEq, Eq, Hash)]
+#[derive(Clone, Copy, Debug, PartialEq, Eq)]
 pub struct Window {
     pub start: u32,
     pub end: u32,
 }
 
 // A month of a year: 1 is January.
-#[derive(Clone, Copy, Debug, PartialEq, Eq, Hash)]
+#[derive(Clone, Copy)]
 struct Month {
     year: u32,
     month: u32,

@@ -15,7 +15,7 @@ use plants::Lengths;
 // A unit's index is its number less one; 0 ends a chain, as 01 has it. Entries past the counts are no kind and 0. `kinds` and `next` stand side by side:
 // the rules and a roster speak of each alone, and pairs of them would have to be taken apart there. A bound of the counts is
 // asked where it is needed and is no ghost field: `fields_of`, a definition of `register`, speaks of the chains of any bytes.
-#[derive(Clone, Copy, Debug, PartialEq, Eq, Hash)]
+#[derive(Clone, Copy)]
 pub struct Chains {
     pub units: usize,
     pub aggregates: usize,
@@ -27,7 +27,7 @@ pub struct Chains {
 }
 
 // Chains whose counts and indices are in range, so that they can be followed. The tests below ask less, the counts alone, so they take `Chains`.
-#[derive(Clone, Copy, Debug, PartialEq, Eq, Hash)]
+#[derive(Clone, Copy)]
 pub struct ChainsInRange {
     pub chains: Chains,
     pub ghost walkable: { Walkable chains },

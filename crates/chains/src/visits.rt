@@ -9,7 +9,7 @@ use plants::Stretch;
 // Who was met so far, their places in the order of the steps, the steps taken, and whether a step met a unit again. The list has room for
 // 64 of them, which is enough where no unit is met twice. `met` goes by unit and `members` by step, so they are no array of pairs. `twice` is
 // no sign that the rest is missing: a walk that met a unit again goes on to its end.
-#[derive(Clone, Copy, Debug, Default, PartialEq, Eq, Hash)]
+#[derive(Clone, Copy, Default)]
 pub struct Walk {
     pub met: [bool; 64],
     pub members: [u8; 64],
@@ -18,7 +18,7 @@ pub struct Walk {
 }
 
 // The walk along all chains, and where each aggregate's members stand in its list.
-#[derive(Clone, Copy, Debug, PartialEq, Eq, Hash)]
+#[derive(Clone, Copy)]
 pub struct Walked {
     pub walk: Walk,
     pub stretches: [Stretch; 16],

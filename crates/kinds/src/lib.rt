@@ -5,7 +5,7 @@ ghost use Rattle.std.specs.Prelude.{◌≡◌};
 ghost use Rattle.kinds.specs.Kinds.{kind_of, Decodes, kind_number, is_semi_scheduled};
 
 // The rules' kinds 1, 2, 3 and 4.
-#[derive(Clone, Copy, Debug, PartialEq, Eq, Hash)]
+#[derive(Clone, Copy, Debug, PartialEq, Eq)]
 pub enum Kind {
     Generating,
     Load,
@@ -14,7 +14,7 @@ pub enum Kind {
 }
 
 // A number that is no kind's.
-#[derive(Clone, Copy, Debug, PartialEq, Eq, Hash)]
+#[derive(Clone, Copy, Debug, PartialEq, Eq)]
 pub struct UnknownKind(pub u8);
 
 impl TryFrom<u8> for Kind {

@@ -14,21 +14,21 @@ use calendar::{Date, Window};
 use response::Day;
 
 // An instance of non-conformance: the ordinal of the date three months later, and whether a conformant day has come since.
-#[derive(Clone, Copy, Debug, PartialEq, Eq, Hash)]
+#[derive(Clone, Copy, Debug, PartialEq, Eq)]
 pub struct Instance {
     pub end: u32,
     pub conformed: bool,
 }
 
 // The latest two since reinstatement. A third is held to the earlier of them, which is then needed no more.
-#[derive(Clone, Copy, Debug, Default, PartialEq, Eq, Hash)]
+#[derive(Clone, Copy, Debug, Default, PartialEq, Eq)]
 pub struct Instances {
     pub earlier: Option<Instance>,
     pub latest: Option<Instance>,
 }
 
 // `latest` is the ordinal of the last accepted date. Any values make a ledger: no call asks anything of them.
-#[derive(Clone, Copy, Debug, Default, PartialEq, Eq, Hash)]
+#[derive(Clone, Copy, Debug, Default, PartialEq, Eq)]
 pub struct Ledger {
     pub latest: Option<u32>,
     pub instances: Instances,
@@ -36,7 +36,7 @@ pub struct Ledger {
 }
 
 // What a day is to the ledger.
-#[derive(Clone, Copy, Debug, PartialEq, Eq, Hash)]
+#[derive(Clone, Copy)]
 pub(crate) enum Conduct {
     Undispatched,
     Conformant,
@@ -44,7 +44,7 @@ pub(crate) enum Conduct {
 }
 
 // Why a call is refused: there is no such date, it is no later than the last accepted one, or the unit is not declared.
-#[derive(Clone, Copy, Debug, PartialEq, Eq, Hash)]
+#[derive(Clone, Copy, Debug, PartialEq, Eq)]
 pub enum LedgerRefusal {
     NoDate,
     NotLater,

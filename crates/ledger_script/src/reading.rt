@@ -5,7 +5,7 @@ ghost use Rattle.ledger_script.specs.Items.{date_of, day_item, payload_item, ite
 use calendar::Date;
 
 // A day by its date and the bytes of its file, or a reinstatement.
-#[derive(Clone, Copy, Debug, PartialEq, Eq, Hash)]
+#[derive(Clone, Copy)]
 pub(crate) enum Call<'a> {
     Day { date: Date, file: &'a [u8] },
     Reinstate,

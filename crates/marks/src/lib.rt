@@ -21,7 +21,7 @@ use triggers::Capability;
 
 // What the interval before left of a unit's readable line. The cap flag plays a part for kind 4 alone. A state with any numbers can be sent, so
 // that they are within 01's bounds is no invariant of the type, but asked by the functions that add them up.
-#[derive(Clone, Copy, Debug, PartialEq, Eq, Hash)]
+#[derive(Clone, Copy, Debug, PartialEq, Eq)]
 pub struct Kept {
     pub capped: bool,
     pub target: i32,
@@ -64,7 +64,7 @@ pub fn kept_bounded(kept: Option<Kept>) -> bool
 
 // ---- the assessment of a point
 
-#[derive(Clone, Copy, Debug, PartialEq, Eq, Hash)]
+#[derive(Clone, Copy, Debug, PartialEq, Eq)]
 pub enum Mark {
     Off,
     Blank,
@@ -75,7 +75,7 @@ pub enum Mark {
 }
 
 // The mark, the signed error, the small trigger, and the level at which the mark would declare the point.
-#[derive(Clone, Copy, Debug, PartialEq, Eq, Hash)]
+#[derive(Clone, Copy)]
 pub struct Assessment {
     pub mark: Mark,
     pub error: i32,
@@ -85,7 +85,7 @@ pub struct Assessment {
 
 // What a point that is neither Off nor Blank is assessed from. Where it is capped, only a positive error counts; where it is a unit of kind 1, 2
 // or 4, its level is not negative.
-#[derive(Clone, Copy, Debug, PartialEq, Eq, Hash)]
+#[derive(Clone, Copy)]
 pub struct Basis {
     pub power: i64,
     pub target: i64,
@@ -201,7 +201,7 @@ pub fn is_known(f: Fields, kept: Option<Kept>) -> bool
 // ---- a unit
 
 // A unit as an interval shows it.
-#[derive(Clone, Copy, Debug, PartialEq)]
+#[derive(Clone, Copy)]
 pub struct Sight {
     pub kind: Option<Kind>,
     pub line: Option<Fields>,
@@ -222,14 +222,14 @@ fn sides_of(kind: Option<Kind>, kept: Kept) -> (i64, i64)
 }
 
 // What a readable line comes to in whole kW.
-#[derive(Clone, Copy, Debug, PartialEq, Eq, Hash)]
+#[derive(Clone, Copy)]
 pub struct Measures {
     pub power: i32,
     pub capability: Capability,
 }
 
 // A readable line, and what it comes to.
-#[derive(Clone, Copy, Debug, PartialEq)]
+#[derive(Clone, Copy)]
 pub struct Measured {
     pub fields: Fields,
     pub measures: Measures,

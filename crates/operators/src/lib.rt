@@ -14,7 +14,7 @@ use points::{Point, Reason};
 use targets::Target;
 
 // A point that a state has: the roster that is loaded, and the point's place, its number less one.
-#[derive(Clone, Copy, Debug, PartialEq, Eq, Hash)]
+#[derive(Clone, Copy)]
 struct Located {
     roster: Roster,
     place: usize,

@@ -8,7 +8,7 @@ ghost use Rattle.plants.specs.Rosters.{no_roster, no_stretch, counts_in, kinds_k
 use kinds::Kind;
 
 // Run lengths: to Not-Responding, to Pending, to declaration.
-#[derive(Clone, Copy, Debug, Default, PartialEq, Eq, Hash)]
+#[derive(Clone, Copy, Debug, Default, PartialEq, Eq)]
 pub struct Lengths {
     pub not_responding: u8,
     pub pending: u8,
@@ -16,7 +16,7 @@ pub struct Lengths {
 }
 
 // Where an aggregate's members stand in the list of all members, and how many there are.
-#[derive(Clone, Copy, Debug, Default, PartialEq, Eq, Hash)]
+#[derive(Clone, Copy, Debug, Default, PartialEq, Eq)]
 pub struct Stretch {
     pub start: u8,
     pub count: u8,
@@ -27,7 +27,7 @@ pub struct Stretch {
 // whether a unit is a member of some aggregate. Entries past the counts are no kind, 0 and false. Kinds come whole from a register's records
 // and `chained` whole from the walk along its chains, so they are two lists, as in the rules' plant, and no list of pairs.
 // `small` and `large` are two fields here, in `Chains` and in `Rule`, as in the rules' plant: each use reads one length by the name of its run.
-#[derive(Clone, Copy, Debug, Default, PartialEq, Eq, Hash)]
+#[derive(Clone, Copy, Debug, Default, PartialEq, Eq)]
 pub struct Roster {
     pub units: usize,
     pub aggregates: usize,

@@ -13,21 +13,21 @@ use plants::Lengths;
 
 // The marks that a run has counted, as stored, and the interval number of the first of them. No run is 0 and 0, since the report shows the
 // count.
-#[derive(Clone, Copy, Debug, Default, PartialEq, Eq, Hash)]
+#[derive(Clone, Copy, Debug, Default, PartialEq, Eq)]
 pub struct Run {
     pub count: u8,
     pub first: u32,
 }
 
 // The interval numbers of the first mark counted in a run and of the declaring mark.
-#[derive(Clone, Copy, Debug, Default, PartialEq, Eq, Hash)]
+#[derive(Clone, Copy, Debug, Default, PartialEq, Eq)]
 pub struct Span {
     pub first: u32,
     pub last: u32,
 }
 
 // Why a point is declared.
-#[derive(Clone, Copy, Debug, Default, PartialEq, Eq, Hash)]
+#[derive(Clone, Copy, Debug, Default, PartialEq, Eq)]
 pub enum Reason {
     #[default]
     ByOperator,
@@ -52,7 +52,7 @@ impl Reason {
 // and holds `ByOperator`: no Option, since a state with status 4 and none could be sent, and the call for the reason would need an answer for it.
 // The status is a number, and is tested and given as one, since a state with any can be sent to a call, and a look tells it. The default is
 // Normal: status 0, no runs, level 0.
-#[derive(Clone, Copy, Debug, Default, PartialEq, Eq, Hash)]
+#[derive(Clone, Copy, Debug, Default, PartialEq, Eq)]
 pub struct Point {
     pub status: u8,
     pub small: Run,
@@ -63,7 +63,7 @@ pub struct Point {
 
 // The run lengths of a plant, and whether an interval is in automatic mode. The interval's number is no part of it: a status goes by the rule
 // alone.
-#[derive(Clone, Copy, Debug, PartialEq, Eq, Hash)]
+#[derive(Clone, Copy)]
 pub struct Rule {
     pub small: Lengths,
     pub large: Lengths,

@@ -8,14 +8,14 @@ ghost use Rattle.records.specs.Intervals.{response_of, error_of, error_flag, int
 ghost use Rattle.records.specs.Records.{records_bounded, day_bounded};
 
 // Underdelivery or overdelivery.
-#[derive(Clone, Copy, Debug, PartialEq, Eq, Hash)]
+#[derive(Clone, Copy, Debug, PartialEq, Eq)]
 pub enum Flag {
     Under,
     Over,
 }
 
 // One record: dispatch target MWB in kW, baseline settlement quantity BSQ and metered energy ME in Wh.
-#[derive(Clone, Copy, Debug, PartialEq, Eq, Hash)]
+#[derive(Clone, Copy)]
 pub struct Interval {
     pub target: u32,
     pub baseline: i32,

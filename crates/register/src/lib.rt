@@ -14,7 +14,7 @@ use plants::Roster;
 use records::Register;
 
 // The rules that a register can fail. 01 gives each its number, and 02, 2026-01, the last one's.
-#[derive(Clone, Copy, Debug, PartialEq, Eq, Hash)]
+#[derive(Clone, Copy, Debug, PartialEq, Eq)]
 pub enum RegisterRefusal {
     Length,
     Counts,
@@ -45,7 +45,7 @@ impl From<RegisterRefusal> for u32 {
 }
 
 // The visits along the chains of an accepted register, and what it loads.
-#[derive(Clone, Copy, Debug, PartialEq, Eq, Hash)]
+#[derive(Clone, Copy)]
 pub struct Registered {
     pub visits: u32,
     pub roster: Roster,

@@ -12,7 +12,7 @@ ghost use Rattle.response.specs.Answers.{day_refusal_number, day_refusal, answer
 use records::{Flag, RECORD_BYTES};
 
 // The result: D in Wh and T in kW over the intervals with a target, the day's flag, and how many intervals are flagged.
-#[derive(Clone, Copy, Debug, PartialEq, Eq, Hash)]
+#[derive(Clone, Copy, Debug, PartialEq, Eq)]
 pub struct Day {
     pub response: i64,
     pub target: u32,
@@ -22,7 +22,7 @@ pub struct Day {
 }
 
 // Why there is no day: not 288 records, or a value beyond its bound.
-#[derive(Clone, Copy, Debug, PartialEq, Eq, Hash)]
+#[derive(Clone, Copy, Debug, PartialEq, Eq)]
 pub enum DayRefusal {
     Size,
     Bounds,

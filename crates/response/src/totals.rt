@@ -7,7 +7,7 @@ ghost use Rattle.response.specs.Totals.{SmallTotals, add_interval, totals_of};
 use records::{Interval, RECORD_BYTES};
 
 // Of the intervals so far: D and T, and how many are flagged.
-#[derive(Clone, Copy, Debug, Default, PartialEq, Eq, Hash)]
+#[derive(Clone, Copy, Default)]
 pub(crate) struct Totals {
     pub response: i64,
     pub target: u32,

@@ -6,7 +6,7 @@ ghost use Rattle.script.specs.Items.{item_of, payload_item, interval_item, decla
 use crate::room::Room;
 
 // The calls of a point stand by themselves: as one variant they would take an enum and a match more.
-#[derive(Clone, Copy, Debug, PartialEq, Eq, Hash)]
+#[derive(Clone, Copy)]
 pub(crate) enum Call<'a> {
     Load(&'a [u8]),
     Interval { room: Room, buffer: &'a [u8] },

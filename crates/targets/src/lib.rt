@@ -13,7 +13,7 @@ use plants::Roster;
 
 // Over those members that have a kept line: the signed sum of MWB, and the sums of FCR and FCL. `complete` is whether every member has one.
 // The default is what is kept with an aggregate after a load.
-#[derive(Clone, Copy, Debug, Default, PartialEq, Eq, Hash)]
+#[derive(Clone, Copy, Debug, Default, PartialEq, Eq)]
 pub struct Target {
     pub target: i32,
     pub raise: u32,

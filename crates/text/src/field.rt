@@ -4,7 +4,7 @@ ghost use Rattle.text.specs.Lines.{joined};
 ghost use Rattle.text.specs.Puts.{most};
 ghost use Rattle.text.specs.Fields.{field_text, texts, longest_field, longest_fields};
 
-#[derive(Clone, Copy, Debug, PartialEq, Eq, Hash)]
+#[derive(Clone, Copy)]
 pub enum Field<'a> {
     // Any bytes: a `&str` would ask more of the caller.
     Words(&'a [u8]),

@@ -44,7 +44,7 @@ fn sums_of(units: &[[u8; 82]], count: usize) -> Sums
 }
 
 // What a case assesses.
-#[derive(Clone, Copy, Debug, PartialEq, Eq, Hash)]
+#[derive(Clone, Copy)]
 enum Form {
     Unit { chained: bool },
     Aggregate,

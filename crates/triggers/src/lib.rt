@@ -13,7 +13,7 @@ use telemetry::Readings;
 // ---- rate of change
 
 // Which way the power has to go to reach the target.
-#[derive(Clone, Copy, Debug, PartialEq, Eq, Hash)]
+#[derive(Clone, Copy)]
 pub enum Direction {
     Up,
     Down,
@@ -21,7 +21,7 @@ pub enum Direction {
 }
 
 // Availability, and the rates of change up, down and at equality: a unit's own, or sums over units.
-#[derive(Clone, Copy, Debug, Default, PartialEq, Eq, Hash)]
+#[derive(Clone, Copy, Default)]
 pub struct Capability {
     pub availability: u64,
     pub up: u64,
