@@ -1,9 +1,9 @@
-"""The 40 bytes of a unit's line (01, "The interval buffer"), and the files of a trial program."""
+"""The 40 bytes of a unit's line (01, "The interval buffer"), and the cases of a trial."""
 import struct
 import sys
 from fractions import Fraction
 
-BLOCK = 65536  # the bytes that a trial program reads at once
+BLOCK = 65536  # the bytes of cases that crates/trials reads at once
 UNSIGNED = ["availability", "raise", "lower", "bid up", "bid down"]
 READINGS = ["MW", "ramp up", "ramp down"]
 
@@ -54,24 +54,13 @@ def printed(label, answer):
     return "".join(f"{label}: {words}\n" for words in ([answer] if isinstance(answer, str) else answer))
 
 
-def write_or_check(arguments, usage, crate, cases, blocks=1):
-    """Writes stdin and stdout of the crate, or with --check says which differs. A case: label, what the program reads, answer.
+def made(cases, blocks=1):
+    """What the cases of a trial are for the program, in blocks, of which there are at most so many, and what it prints.
 
-    The program reads so many blocks at most.
+    A case: label, what the program reads, answer.
     """
-    if arguments not in ([], ["--check"]):
-        sys.exit(usage)
     labels = [label for label, _, _ in cases]
     assert all(labels), "a label is empty"
     assert len(labels) == len(set(labels)), "a label stands twice"
     given = in_blocks((labelled(label) + content for label, content, _ in cases), blocks)
-    text = "".join(printed(label, answer) for label, _, answer in cases)
-    made = {crate / "stdin": given, crate / "stdout": text.encode("ascii")}
-    if arguments:
-        differing = [path for path, content in made.items() if not path.is_file() or path.read_bytes() != content]
-        for path in differing:
-            print(f"{path.name} of {crate.name} differs from what tools/{crate.name}.py makes")
-        sys.exit(1 if differing else 0)
-    for path, content in made.items():
-        path.write_bytes(content)
-    print(f"{len(cases)} cases")
+    return given, "".join(printed(label, answer) for label, _, answer in cases).encode("ascii")

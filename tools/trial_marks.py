@@ -1,8 +1,4 @@
-#!/usr/bin/env python3
-"""Writes what `crates/trial_marks` is run on (stdin) and what it must print (stdout).
-
-  tools/trial_marks.py           write both files
-  tools/trial_marks.py --check   write nothing; exit 1 where a file differs from what would be written
+"""The cases of marks for crates/trials, and what it prints of each; `tools/make_trials.py` writes them.
 
 Each case is a unit or an aggregate at one interval. Its answer (mark, error, small trigger, level) is stated
 here by hand from 01, "Triggers and errors" and "Marks and runs", for kind 4 from 02, 2026-01, and for levels from
@@ -12,16 +8,13 @@ The monitor's code is never run. Powers, levels and rates are in kW, triggers in
 The level is the one at which the point would be declared by this mark: for kinds 1, 2 and 4 the greater of MW and
 0, for kind 3 MW, for an aggregate the sum of its members' MW as sent, loads subtracted. It is 0 for OFF and BLANK.
 
-The program reads its standard input in blocks of 65,536 bytes, at most BLOCKS of them. No case straddles two: where
+The cases stand in blocks of 65,536 bytes, at most BLOCKS of them. No case straddles two: where
 the next case does not fit into a block, zeros fill that block, and the case begins the next one.
 """
-import pathlib
 import struct
-import sys
 
-from lines import READINGS, nearest_kw, packed, write_or_check
+from lines import READINGS, made, nearest_kw, packed
 
-CRATE = pathlib.Path(__file__).resolve().parent.parent / "crates" / "trial_marks"
 BLOCKS = 4
 GENERATING, LOAD, BIDIRECTIONAL = KINDS = (1, 2, 3)
 SEMI_SCHEDULED = 4  # stands in no chain
@@ -938,13 +931,10 @@ def aggregate_levels():
         aggregate(f"level: 32 generating units, MW -300, and 32 loads, MW {drawn}", answer, *pair, count=64)
 
 
-def main(arguments):
+def trial():
+    """The blocks of cases, and what is printed of them."""
     for section in (table, worked_examples, edges, cap_flags, kept_or_present, triggers, rates_of_change, unit_marks):
         section()
     for section in (aggregate_edges, sums, directions, sides, aggregate_marks, largest, levels, solar_levels, aggregate_levels):
         section()
-    write_or_check(arguments, __doc__, CRATE, cases, BLOCKS)
-
-
-if __name__ == "__main__":
-    main(sys.argv[1:])
+    return made(cases, BLOCKS)

@@ -1,8 +1,4 @@
-#!/usr/bin/env python3
-"""Writes what `crates/trial_passes` is run on (stdin) and what it must print (stdout).
-
-  tools/trial_passes.py           write both files
-  tools/trial_passes.py --check   write nothing; exit 1 where a file differs from what would be written
+"""The cases of passes for crates/trials, and what it prints of each; `tools/make_trials.py` writes them.
 
 Each case is a register with one interval's lines and the lines before them. For each aggregate its answer states mark, error,
 small trigger, level and how many members the pass looked at, by hand from 01, "Triggers and errors" and "Marks and runs", and
@@ -15,16 +11,13 @@ A case is read as: label with its length; the register with its length in two by
 with theirs. A sample is a byte, 1 where a line is kept, this interval's line and the line before. Unit u has sample
 picks[(u - 1) % number of picks] % number of samples, counted from 0.
 
-The program reads its standard input in blocks of 65,536 bytes, at most BLOCKS of them, as `in_blocks` lays them out.
+The cases stand in blocks of 65,536 bytes, at most BLOCKS of them, as `in_blocks` lays them out.
 """
-import pathlib
-import sys
 
-from lines import READINGS, UNSIGNED, write_or_check
+from lines import READINGS, UNSIGNED, made
 from plant_bytes import register
 from trial_marks import APART, BAD, BIDIRECTIONAL, GENERATING, LOAD, NOTHING, SEMI_SCHEDULED, SUBSTITUTED, line, member, rates
 
-CRATE = pathlib.Path(__file__).resolve().parent.parent / "crates" / "trial_passes"
 BLOCKS = 4
 LENGTHS = (2, 3, 4, 2, 3, 4)  # run lengths, which play no part here
 MARKS = {"OFF": 0, "BLANK": 1, "CLEAR": 2, "DOUBT": 3, "SMALL": 4, "LARGE": 5}  # 01, the report
@@ -858,13 +851,10 @@ def samples_and_picks():
     one_pass("first byte 255, then unreadable", rising(4), blank(3), ON_TARGET, sent)
 
 
-def main(arguments):
+def trial():
+    """The blocks of cases, and what is printed of them."""
     for section in (one_unreadable, more_unreadable, none_unreadable, strangers, goes_on, ways, unused_sums):
         section()
     for section in (several, registers, samples_and_picks):
         section()
-    write_or_check(arguments, __doc__, CRATE, cases, BLOCKS)
-
-
-if __name__ == "__main__":
-    main(sys.argv[1:])
+    return made(cases, BLOCKS)

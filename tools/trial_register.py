@@ -1,15 +1,10 @@
-#!/usr/bin/env python3
-"""Cases for crates/trial_register, worked out by hand from document 01, and for kind 4 from 02, 2026-01.
+"""The cases of registers for crates/trials, and what it prints of each; `tools/make_trials.py` writes them.
 
-  tools/trial_register.py            writes the crate's stdin and stdout
-  tools/trial_register.py --check    fails if they differ from what it would write
-
-Each case states its answer: the visits of an accepted register, or the number of its refusal.
+They are worked out by hand from document 01, and for kind 4 from 02, 2026-01. Each case states its answer: the visits of
+an accepted register, or the number of its refusal. A case is read as: label with its length; the register with its
+length in two bytes.
 """
-import os
-import sys
-
-CRATE = os.path.join(os.path.dirname(os.path.abspath(__file__)), '..', 'crates', 'trial_register')
+from lines import made
 
 
 class Register:
@@ -286,29 +281,10 @@ refused('15 bytes; run lengths', changed(small=[2, 2, 3], cut=25), 1)
 refused('15 bytes; spare in the header', changed(spare=[1] + [0] * 7, cut=25), 1)
 
 
-def made():
-    sent, lines = b'', b''
+def trial():
+    """The block of cases, and what is printed of them."""
+    cases = []
     for label, register, answer in CASES:
-        name, data = label.encode('ascii'), register.bytes()
-        sent += bytes([len(name)]) + name + len(data).to_bytes(2, 'little') + data
-        lines += name + b': ' + answer.encode('ascii') + b'\n'
-    if 65536 < len(sent):
-        sys.exit('the cases are longer than the buffer of the program')
-    return {'stdin': sent, 'stdout': lines}
-
-
-def main():
-    if sys.argv[1:] not in ([], ['--check']):
-        sys.exit(__doc__)
-    for name, data in made().items():
-        path = os.path.join(CRATE, name)
-        if not sys.argv[1:]:
-            with open(path, 'wb') as f:
-                f.write(data)
-            continue
-        with open(path, 'rb') as f:
-            if f.read() != data:
-                sys.exit(f'{path} is not what {sys.argv[0]} writes')
-
-
-main()
+        data = register.bytes()
+        cases.append((label, len(data).to_bytes(2, 'little') + data, answer))
+    return made(cases)

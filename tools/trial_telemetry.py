@@ -1,19 +1,12 @@
-#!/usr/bin/env python3
-"""Writes what `crates/trial_telemetry` is run on (stdin) and what it must print (stdout).
-
-  tools/trial_telemetry.py           write both files
-  tools/trial_telemetry.py --check   write nothing; exit 1 where a file differs from what would be written
+"""The cases of telemetry for crates/trials, and what it prints of each; `tools/make_trials.py` writes them.
 
 Each case is one line of a unit. Its answer is stated here by hand from 01, "The interval buffer", and for kind 4 from 02,
 2026-01: `unreadable`, or the numbers that were put in, with the readings in whole kW. The monitor's code is never run.
 A reading's kW is checked against exact fractions besides.
 """
-import pathlib
-import sys
 
-from lines import READINGS, UNSIGNED, nearest_kw, packed, write_or_check
+from lines import READINGS, UNSIGNED, made, nearest_kw, packed
 
-CRATE = pathlib.Path(__file__).resolve().parent.parent / "crates" / "trial_telemetry"
 
 # The fields of a plain good line: all different, so that none can stand for another.
 PLAIN = {
@@ -309,11 +302,8 @@ def table():
     unreadable("table: bits 7FC00000 as MW", {"MW": 0x7FC00000})
 
 
-def main(arguments):
+def trial():
+    """The blocks of cases, and what is printed of them."""
     for section in (plain_lines, heads, cap_flags, targets, unsigned_fields, slices, float_bounds, patterns, rounding, table):
         section()
-    write_or_check(arguments, __doc__, CRATE, cases)
-
-
-if __name__ == "__main__":
-    main(sys.argv[1:])
+    return made(cases)

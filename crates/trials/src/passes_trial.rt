@@ -1,10 +1,9 @@
-// Reads registers and units' lines as `tools/trial_passes.py` writes them and prints what a pass over each aggregate's
-// members gives.
-#![tactic(auto)]
+// Registers and units' lines as `tools/trial_passes.py` writes them, and what a pass over each aggregate's members gives.
 
 ghost use Rattle.std.specs.Prelude.{ℕ, ◌<◌, length, get_or, IfSome, None};
 ghost use Rattle.aggregates.specs.Views.{SmallView};
 
+use crate::{cases, samples};
 use aggregates::View;
 use passes::Pass;
 use plants::Roster;
@@ -56,20 +55,15 @@ fn print_case<R: Print>(
     Ok(())
 }
 
-// A case is a label, a register, samples with their number before them, and picks with theirs. No label is empty: a
-// zero ends the cases of a block.
-fn run_case<R: Print>(rt: &R, cases: &mut &[u8]) -> Option<io::Result<()>> {
-    let label = trials::label(cases)?;
-    let register = trials::long_sized(cases)?;
+// A case is a label, a register, samples with their number before them, and picks with theirs.
+pub fn run_case<R: Print>(rt: &R, cases: &mut &[u8]) -> Option<io::Result<()>> {
+    let label = cases::label(cases)?;
+    let register = cases::long_sized(cases)?;
     let given = usize::from(*cases.split_off_first()?);
     let samples = cases.split_off(..81 * given)?.as_chunks::<81>().0;
-    let picks = trials::sized(cases)?;
-    if label.is_empty() || samples.is_empty() || picks.is_empty() {
+    let picks = cases::sized(cases)?;
+    if samples.is_empty() || picks.is_empty() {
         return None;
     }
     Some(print_case(rt, label, register, samples, picks))
-}
-
-fn main(rt: HostRuntime) -> io::Result<()> {
-    trials::run(&mut rt.stdin(), |cases| run_case(&rt, cases))
 }

@@ -1,6 +1,4 @@
 // What the trials of marks and passes share: a unit by a sample, and the unit as its aggregate takes it.
-#![tactic(auto)]
-
 ghost use Rattle.std.specs.Prelude.{◌≡◌, cond, eqb, get_or, take, drop, []};
 ghost use Rattle.telemetry.specs.Lines.{line_of};
 ghost use Rattle.marks.specs.Bounds.{SmallSight};

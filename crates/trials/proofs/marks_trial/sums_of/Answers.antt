@@ -1,6 +1,6 @@
 use Rattle.std.proofs.Common.{arith}
 use Rattle.aggregates.proofs.Small.{view-small, view-more, wider}
-use Rattle.trial_marks.proofs.sums_of.Goals as goal
+use Rattle.trials.proofs.marks_trial.sums_of.Goals as goal
 
 pub plus-sums-requires : goal.plus-sums-requires
 plus-sums-requires c = (wider (omega arith) c.loop-i.invariant, rw c.view_of.ensures (view-small _ c.sight_of-unit.ensures))

@@ -1,15 +1,14 @@
 // What the trials share: a case is taken off the front of what is left of a block of standard input.
-#![tactic(auto)]
 
 ghost use Rattle.std.specs.Prelude.{◌≡◌, ◌↔◌, ◌+◌, ◌%◌, ◌/◌, ◌≤◌, ◌∷◌, ◌++◌, length, get_or, IfSome, IsSome};
 
 use std::io::Read;
 use std::{io, str};
 
-// A block, in which no case begins that ends in another.
-const BLOCK: usize = 65536;
+// A block: the number of a trial, and cases of it, of which none begins that ends in another block.
+const BLOCK: usize = 65537;
 
-const BLOCKS: usize = 4;
+const BLOCKS: usize = 12;
 
 // Bytes with their number before them, in one byte. Here and in `long_sized` their numbers are read from one byte and from two, by no common
 // method.
@@ -37,12 +36,11 @@ pub fn label<'a>(cases: &mut &'a [u8]) -> Option<&'a str>
     str::from_utf8(sized(cases)?).ok()
 }
 
-// Runs `case` on what is left of a block until there is no further case in it. This is all that the `main` functions of
-// the trials share; each of them names its own case, whose function has what it prints to beside the cases: the closure
-// holds the one, and is given the others.
+// Runs `case` on the number of a block's trial and what is left of the block, until there is no further case in it. The
+// closure holds what it prints to, and is given the rest.
 //
 // It promises nothing: no contract can say what standard input holds, and so which cases are run.
-pub fn run<I: Read, F: Fn(&mut &[u8]) -> Option<io::Result<()>> + Drop>(
+pub fn run<I: Read, F: Fn(u8, &mut &[u8]) -> Option<io::Result<()>> + Drop>(
     input: &mut I,
     case: F,
 ) -> io::Result<()>
@@ -52,9 +50,12 @@ pub fn run<I: Read, F: Fn(&mut &[u8]) -> Option<io::Result<()>> + Drop>(
     for _ in 0..BLOCKS {
         let count = input::read_full(input, &mut block);
         let mut cases = &block[..count];
+        let Some(trial) = cases.split_off_first() else {
+            break;
+        };
         // A case has at least a byte.
         for _ in 0..count {
-            match case(&mut cases) {
+            match case(*trial, &mut cases) {
                 Some(printed) => printed?,
                 None => break,
             }

@@ -1,10 +1,10 @@
-// Reads units and aggregates as `tools/trial_marks.py` writes them and prints what `marks` makes of each.
-#![tactic(auto)]
+// Units and aggregates as `tools/trial_marks.py` writes them, and what `marks` makes of each.
 
 ghost use Rattle.std.specs.Prelude.{◌*◌, ◌<◌, ◌≤◌, length};
 ghost use Rattle.marks.specs.Bounds.{SmallSight};
 ghost use Rattle.aggregates.specs.Sizes.{SmallSums};
 
+use crate::{cases, samples};
 use aggregates::Sums;
 use marks::{Assessment, Mark, Sight};
 use std::io;
@@ -70,8 +70,8 @@ fn assess(form: Form, units: &[[u8; 82]], count: usize) -> Assessment
 }
 
 // A case is a label, its form by a number, how many units it has, and how many units are given, which follow.
-fn run_case<R: Print>(rt: &R, cases: &mut &[u8]) -> Option<io::Result<()>> {
-    let label = trials::label(cases)?;
+pub fn run_case<R: Print>(rt: &R, cases: &mut &[u8]) -> Option<io::Result<()>> {
+    let label = cases::label(cases)?;
     let form = Form::from(*cases.split_off_first()?);
     let count = usize::from(*cases.split_off_first()?);
     let given = usize::from(*cases.split_off_first()?);
@@ -87,8 +87,4 @@ fn run_case<R: Print>(rt: &R, cases: &mut &[u8]) -> Option<io::Result<()>> {
         a.trigger,
         a.level
     ))
-}
-
-fn main(rt: HostRuntime) -> io::Result<()> {
-    trials::run(&mut rt.stdin(), |cases| run_case(&rt, cases))
 }

@@ -1,6 +1,6 @@
-// Reads lines as `tools/trial_telemetry.py` writes them and prints what `telemetry` makes of each.
-#![tactic(auto)]
+// Lines of units as `tools/trial_telemetry.py` writes them, and what `telemetry` makes of each.
 
+use crate::cases;
 use std::io;
 use std::io::Print;
 use telemetry::{Fields, Reading};
@@ -32,19 +32,15 @@ fn print_fields<R: Print>(rt: &R, label: &str, f: Fields) -> io::Result<()> {
 }
 
 // A case is a label, a kind, whether the unit stands in a chain, and the bytes of its line.
-fn run_case<R: Print>(rt: &R, cases: &mut &[u8]) -> Option<io::Result<()>> {
-    let label = trials::label(cases)?;
+pub fn run_case<R: Print>(rt: &R, cases: &mut &[u8]) -> Option<io::Result<()>> {
+    let label = cases::label(cases)?;
     let kind = cases.split_off_first()?;
     let chained = cases.split_off_first()?;
-    let line = trials::sized(cases)?;
+    let line = cases::sized(cases)?;
     Some(
         match telemetry::read_line(kinds::kind_of(*kind), *chained == 1, line) {
             Some(fields) => print_fields(rt, label, fields),
             None => println!(rt; "{label}: unreadable"),
         },
     )
-}
-
-fn main(rt: HostRuntime) -> io::Result<()> {
-    trials::run(&mut rt.stdin(), |cases| run_case(&rt, cases))
 }
