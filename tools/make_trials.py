@@ -39,19 +39,18 @@ def files():
 
 
 def main(arguments):
-    match arguments:
-        case ["--blocks", trial]:
-            sys.stdout.buffer.write(numbered(int(trial), sys.stdin.buffer.read()))
-        case ["--check"]:
-            differing = [path for path, content in files().items() if not path.is_file() or path.read_bytes() != content]
-            for path in differing:
-                print(f"{path.name} of crates/trials differs from what tools/make_trials.py makes")
-            sys.exit(1 if differing else 0)
-        case []:
-            for path, content in files().items():
-                path.write_bytes(content)
-        case _:
-            sys.exit(__doc__)
+    if len(arguments) == 2 and arguments[0] == "--blocks":
+        sys.stdout.buffer.write(numbered(int(arguments[1]), sys.stdin.buffer.read()))
+    elif arguments == ["--check"]:
+        differing = [path for path, content in files().items() if not path.is_file() or path.read_bytes() != content]
+        for path in differing:
+            print(f"{path.name} of crates/trials differs from what tools/make_trials.py makes")
+        sys.exit(1 if differing else 0)
+    elif not arguments:
+        for path, content in files().items():
+            path.write_bytes(content)
+    else:
+        sys.exit(__doc__)
 
 
 if __name__ == "__main__":
