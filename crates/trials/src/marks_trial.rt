@@ -70,7 +70,7 @@ fn assess(form: Form, units: &[[u8; 82]], count: usize) -> Assessment
 }
 
 // A case is a label, its form by a number, how many units it has, and how many units are given, which follow.
-pub fn run_case<R: Print>(rt: &R, cases: &mut &[u8]) -> Option<io::Result<()>> {
+pub(crate) fn run_case<R: Print>(rt: &R, cases: &mut &[u8]) -> Option<io::Result<()>> {
     let label = cases::label(cases)?;
     let form = Form::from(*cases.split_off_first()?);
     let count = usize::from(*cases.split_off_first()?);

@@ -56,7 +56,7 @@ fn print_case<R: Print>(
 }
 
 // A case is a label, a register, samples with their number before them, and picks with theirs.
-pub fn run_case<R: Print>(rt: &R, cases: &mut &[u8]) -> Option<io::Result<()>> {
+pub(crate) fn run_case<R: Print>(rt: &R, cases: &mut &[u8]) -> Option<io::Result<()>> {
     let label = cases::label(cases)?;
     let register = cases::long_sized(cases)?;
     let given = usize::from(*cases.split_off_first()?);

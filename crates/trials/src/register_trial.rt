@@ -9,7 +9,7 @@ fn first_case<'a>(cases: &mut &'a [u8]) -> Option<(&'a str, &'a [u8])> {
 }
 
 // A case is a label and a register, with its length in two bytes.
-pub fn run_case<R: Print>(rt: &R, cases: &mut &[u8]) -> Option<io::Result<()>> {
+pub(crate) fn run_case<R: Print>(rt: &R, cases: &mut &[u8]) -> Option<io::Result<()>> {
     let Some((label, bytes)) = first_case(cases) else {
         *cases = &[];
         return Some(println!(rt; "truncated case"));

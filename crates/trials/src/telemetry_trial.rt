@@ -32,7 +32,7 @@ fn print_fields<R: Print>(rt: &R, label: &str, f: Fields) -> io::Result<()> {
 }
 
 // A case is a label, a kind, whether the unit stands in a chain, and the bytes of its line.
-pub fn run_case<R: Print>(rt: &R, cases: &mut &[u8]) -> Option<io::Result<()>> {
+pub(crate) fn run_case<R: Print>(rt: &R, cases: &mut &[u8]) -> Option<io::Result<()>> {
     let label = cases::label(cases)?;
     let kind = cases.split_off_first()?;
     let chained = cases.split_off_first()?;

@@ -65,7 +65,7 @@ fn print_all<R: Print>(rt: &R) -> io::Result<()> {
 }
 
 // All that is printed is one case.
-pub fn run_case<R: Print>(rt: &R, cases: &mut &[u8]) -> Option<io::Result<()>> {
+pub(crate) fn run_case<R: Print>(rt: &R, cases: &mut &[u8]) -> Option<io::Result<()>> {
     *cases = &[];
     Some(print_all(rt))
 }
