@@ -1,3 +1,4 @@
 -- The words of the crate's contracts.
 pub mod Points
 pub mod Records
+pub mod Statuses
