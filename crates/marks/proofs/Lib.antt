@@ -5,3 +5,4 @@ pub mod Fields
 pub mod Rows
 pub mod SemiScheduled
 pub mod Levels
+pub mod MarkNumbers

@@ -7,3 +7,4 @@ pub mod Measures
 pub mod Bounds
 pub mod Hosts
 pub mod Table
+pub mod Numbers
