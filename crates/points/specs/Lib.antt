@@ -2,3 +2,5 @@
 pub mod Points
 pub mod Records
 pub mod Statuses
+pub mod Counts
+pub mod Layouts
