@@ -11,7 +11,7 @@ use Rattle.std.proofs.Math.Seq.{drop-cons}
 use Rattle.trace.proofs.Sweeps.{get_or-sweep}
 use Rattle.plants.specs.Rosters.{stretch_of, roster_sound}
 use Rattle.plants.specs.declared.Roster.{Roster}
-use Rattle.plants.proofs.Soundness.{sound-units}
+use Rattle.plants.proofs.Soundness.{sound-units, sound-aggregates}
 use Rattle.plants.proofs.Stretches.{stretch-few, member-inside, stretch-at, map_same}
 use Rattle.marks.specs.declared.Sight.{Sight}
 use Rattle.aggregates.specs.Aggregates.{no_sums}
@@ -21,7 +21,7 @@ use Rattle.aggregates.specs.declared.Sums.{Sums}
 use Rattle.aggregates.specs.declared.View.{View}
 use Rattle.aggregates.proofs.Small.{view-more, wider, no-sums-small}
 use Rattle.passes.specs.Passes.{pass_over, whole}
-use Rattle.passes.specs.Seen.{seen_at, members_seen, Seen, pass_from, no_pass, pass_at, passes_of}
+use Rattle.passes.specs.Seen.{seen_at, members_seen, Seen, pass_from, no_pass, pass_at, passes_of, PassesOver}
 use Rattle.passes.specs.declared.Pass.{Pass}
 use Rattle.passes.proofs.Looks.{run_from, run-start, run_more, run_end, run-stopped, pass_of}
 
@@ -140,6 +140,17 @@ pass-at-members roster seen sight sound alike j l =
     (map_same (seen_at seen) (λ u. view_of (sight u)) (stretch_of roster j) (λ u m. alike u (member-inside roster sound j l u m))
     ∙ sym (map-map view_of sight (stretch_of roster j)))
     ∙ pass_of (map sight (stretch_of roster j))
+
+-- which is what the passes promise of the members
+pub passes-over : (roster : Roster) (seen : List (Option View)) → Seen roster seen → {passes : List Pass} → passes ≡ passes_of roster seen
+    → PassesOver roster seen passes
+passes-over roster seen known e =
+    record {
+      over = λ sight alike j l.
+          rw e
+          (passes_at roster seen j l (sound-aggregates roster known.sound) no_pass
+          ∙ pass-at-members roster seen sight known.sound alike j l);
+    }
 
 -- one member's turn, but for what it adds
 pub ruleset along = (along-none, along-few, along-small, place-in, member-small, wider)
