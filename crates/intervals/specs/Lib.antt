@@ -4,3 +4,4 @@ pub mod Assessments
 pub mod Monitors
 pub mod Intervals
 pub mod Units
+pub mod Headers
