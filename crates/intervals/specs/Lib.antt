@@ -3,5 +3,6 @@ pub mod Plants
 pub mod Assessments
 pub mod Monitors
 pub mod Intervals
+pub mod Passes
 pub mod Units
 pub mod Headers
