@@ -29,7 +29,7 @@ made_day l date day =
     let next = ledger_after l r in
     record { state = next; more = true; text = day_text day next.declared (verdict_of r) }
 
--- "31 and 32 of the day's own assessment go before 33 and 34"
+-- 31 and 32 go before 33 and 34, which 02 leaves open: a ledger takes a day result, so the day is assessed before there is anything to enter
 abbrev pub made_file : Ledger → Date → Result Day DayRefusal → Outcome
 made_file l date (Err refusal) = record { state = l; more = true; text = refused_text (day_refusal_number refusal) }
 made_file l date (Ok day) = made_day l date day

@@ -7,7 +7,7 @@ use Rattle.response_text.specs.Texts.{flag_text}
 use Rattle.ledger.specs.Ledgers.{refusal_number}
 use Rattle.ledger.specs.Calls.{Verdict}
 
--- "`day accepted D T FLAG UNDER OVER DECLARED` (DECLARED 0 or 1 after the call)", with the flag in words
+-- `day accepted D T FLAG UNDER OVER DECLARED`, with the flag in words; DECLARED is 1 where the unit is declared after the call, else 0
 abbrev pub accepted_of : Day → List ℕ → Bool → List ℕ
 accepted_of day flag declared =
     line (
@@ -24,7 +24,7 @@ accepted_of day flag declared =
 unfoldable pub accepted_text : Day → Bool → List ℕ
 accepted_text day declared = accepted_of day (flag_text day.flag) declared
 
--- "or `day refused N`"
+-- `day refused N`
 abbrev pub refused_text : ℕ → List ℕ
 refused_text number = numbered_of (ascii "day refused") number
 
@@ -33,7 +33,7 @@ abbrev pub day_text : Day → Bool → Verdict → List ℕ
 day_text day declared None = accepted_text day declared
 day_text day declared (Some refusal) = refused_text (refusal_number refusal)
 
--- "`reinstate accepted` or `reinstate refused 35`"
+-- `reinstate accepted`, or `reinstate refused N`, where N is 35
 abbrev pub reinstate_text : Verdict → List ℕ
 reinstate_text None = line (ascii "reinstate accepted" ∷ [])
 reinstate_text (Some refusal) = numbered_of (ascii "reinstate refused") (refusal_number refusal)

@@ -32,7 +32,7 @@ pub record Answers (expected : Result Day DayRefusal) (refusal : ℕ) (r : Resul
   pub result : r ≡ expected
   pub number : answer_number r ≡ refusal
 
--- ---- a file: "the earlier target's 4 bytes and then the records"; one "under 4 bytes .. is 31"
+-- ---- a file: the earlier target's 4 bytes, then the records. One of under 4 bytes has no records, so it is 31
 
 abbrev pub is_short : List ℕ → Bool
 is_short bytes = ltb (length bytes) 4

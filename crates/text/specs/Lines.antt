@@ -74,7 +74,7 @@ abbrev pub day_values_of : ℤ → ℕ → List ℕ → ℕ → ℕ → List ℕ
 day_values_of response target flag under over =
     joined (whole_of response ∷ decimal_of target ∷ flag ∷ decimal_of under ∷ decimal_of over ∷ [])
 
--- its line: "prints `D T FLAG UNDER OVER`"
+-- its line: `D T FLAG UNDER OVER`
 abbrev pub day_line_of : ℤ → ℕ → List ℕ → ℕ → ℕ → List ℕ
 day_line_of response target flag under over =
     line (whole_of response ∷ decimal_of target ∷ flag ∷ decimal_of under ∷ decimal_of over ∷ [])
