@@ -9,15 +9,11 @@ use lib.Dec.{ltb}
 use Rattle.trace.proofs.Sweeps.{below_or_not}
 use Rattle.trace.proofs.Tests.{chosen}
 use Rattle.calendar.specs.Dates.{is_leap, month_length, days_of_months, days_before, is_date, moved_to, three_months_later}
+use Rattle.calendar.specs.Dates.{Earlier, by_year, by_month, by_day, NoLater}
 use Rattle.calendar.specs.Ordinals.{days_of_years, ordinal_of, Placed}
 use Rattle.calendar.specs.declared.Date.{Date}
 use Rattle.calendar.proofs.Months.{through-month, length-within}
 use Rattle.calendar.proofs.Places.{day-within, date-placed, later-placed}
-
-pub data Earlier (a b : Date) : Type 0 where
-  by_year : a.year < b.year → Earlier a b
-  by_month : a.year ≡ b.year → a.month < b.month → Earlier a b
-  by_day : a.year ≡ b.year → a.month ≡ b.month → a.day < b.day → Earlier a b
 
 -- a date of 2000 to 2100: one that there is, or three months after one
 abbrev InMonth : Date → Type 0
@@ -109,10 +105,10 @@ module _ (a b : Date) (p : Dated a) (q : Dated b) where
 
 module _ (a b : Date) (p : Dated a) (q : Dated b) where
   -- so of two dates one is no later than the other where its ordinal is no greater
-  pub no-later : (ordinal_of a ≤ ordinal_of b) ↔ (Earlier b a → ⊥)
+  pub no-later : (ordinal_of a ≤ ordinal_of b) ↔ NoLater a b
   no-later = (λ l e. let h = earlier-less b a q p e in omega arith, λ n. at_most (below_or_not (ordinal_of b) (ordinal_of a)) n)
     where
-      at_most : (ordinal_of b < ordinal_of a) ⊎ (ordinal_of a ≤ ordinal_of b) → (Earlier b a → ⊥) → ordinal_of a ≤ ordinal_of b
+      at_most : (ordinal_of b < ordinal_of a) ⊎ (ordinal_of a ≤ ordinal_of b) → NoLater a b → ordinal_of a ≤ ordinal_of b
       at_most (inl l) n = absurd (n (less-earlier b a q p l))
       at_most (inr l) n = l
 
@@ -138,5 +134,5 @@ later-dated date e =
 
 -- "no later than three calendar months after", also where that is after the end of 2099
 pub within-three-months : (a b : Date) → is_date a ≡ true → is_date b ≡ true
-    → (ordinal_of a ≤ ordinal_of (three_months_later b)) ↔ (Earlier (three_months_later b) a → ⊥)
+    → (ordinal_of a ≤ ordinal_of (three_months_later b)) ↔ NoLater a (three_months_later b)
 within-three-months a b d e = no-later a (three_months_later b) (date-dated a d) (later-dated b e)

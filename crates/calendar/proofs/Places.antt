@@ -8,7 +8,7 @@ use borrow.Author.Tests.{leb-true, ltb-true, ltb-false}
 use lib.Dec.{leb, ltb}
 use Rattle.trace.proofs.Tests.{and_l, and_r}
 use Rattle.calendar.specs.Dates.{is_leap, month_length, is_month, is_date, moved_to, three_months_later}
-use Rattle.calendar.specs.Ordinals.{ordinal_of, Placed}
+use Rattle.calendar.specs.Ordinals.{Placed}
 use Rattle.calendar.specs.declared.Date.{Date}
 use Rattle.calendar.proofs.Months.{length-within}
 
@@ -74,8 +74,3 @@ later-placed date e = go (ltb date.month 10) refl
     go false h =
         let l = ltb-false date.month 10 h in
         moved-placed date _ _ (omega (arith, y)) (omega (arith, y)) (omega arith) (omega (arith, p.month_most))
-
--- an ordinal is at least 1, so `latest_of` of the proofs of `ledger` can be 0 for no date
-pub ordinal-least : (date : Date) → is_date date ≡ true → 1 ≤ ordinal_of date
-unfolding ordinal_of
-ordinal-least date e = omega (arith, day-within date e)

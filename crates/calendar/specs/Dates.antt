@@ -1,6 +1,6 @@
--- Dates (02, 2026-05: "Dates are Gregorian, 2000 to 2099, and the days before each month are a fixed table"), and the date three months
--- after one.
-use Rattle.std.specs.Prelude.{Bool, cond, not, ◌&&◌, ◌||◌, ℕ, zero, suc, ◌+◌, ◌-◌, ◌%◌, min, eqb, leb, ltb}
+-- Dates (02, 2026-05: "Dates are Gregorian, 2000 to 2099, and the days before each month are a fixed table"), the date three months
+-- after one, and the order of dates.
+use Rattle.std.specs.Prelude.{◌≡◌, Bool, cond, not, ◌&&◌, ◌||◌, ℕ, zero, suc, ◌+◌, ◌-◌, ◌%◌, ◌<◌, min, eqb, leb, ltb}
 use Rattle.calendar.specs.declared.Date.{Date}
 
 -- every fourth year, but of those that 100 divides only every fourth
@@ -38,3 +38,14 @@ three_months_later date =
     cond (ltb date.month 10)
     (moved_to date date.year (date.month + 3))
     (moved_to date (date.year + 1) (date.month - 9))
+
+-- ---- the order of dates: by year, then by month, then by day
+
+pub data Earlier (a b : Date) : Type 0 where
+  by_year : a.year < b.year → Earlier a b
+  by_month : a.year ≡ b.year → a.month < b.month → Earlier a b
+  by_day : a.year ≡ b.year → a.month ≡ b.month → a.day < b.day → Earlier a b
+
+-- "no later than"
+abbrev pub NoLater : Date → Date → Type 0
+NoLater a b = ¬ Earlier b a

@@ -1,5 +1,5 @@
--- The ordinal of a date: the number of its day from the start of 2000 on, 1 for 1 January 2000. A date is later than another where its
--- ordinal is greater: `proofs/Order.antt` shows that this is the order of year, month and day.
+-- The ordinal of a date: the number of its day from the start of 2000 on, 1 for 1 January 2000. Ledgers hold and compare ordinals:
+-- `proofs/Order.antt` shows that they are in the order of year, month and day, `Earlier`.
 use Rattle.std.specs.Prelude.{cond, ℕ, zero, suc, ◌+◌, ◌-◌, ◌≤◌, Option, Some, None}
 use Rattle.calendar.specs.Dates.{is_leap, days_of_months, days_before, is_date, three_months_later}
 use Rattle.calendar.specs.declared.Date.{Date}

@@ -1,4 +1,4 @@
--- A day at which the rule holds sets the history's own test, and only an accepted reinstatement clears it. Assumes nothing.
+-- A day at which the rule, as it is worked out, holds sets the history's own test, and only an accepted reinstatement clears it. Assumes nothing.
 use mathlib.Core.Path.{◌≡◌, refl, sym, ◌∙◌}
 use mathlib.Core.Logic.{◌⊎◌, inl, inr}
 use mathlib.Core.Bool.{Bool, true, false, cond, not, false≢true, or-true}
@@ -10,12 +10,15 @@ use Rattle.calendar.specs.declared.Date.{Date}
 use Rattle.response.specs.declared.Day.{Day}
 use Rattle.ledger.specs.Calls.{Call, enter, reinstate, Verdict}
 use Rattle.ledger.specs.History.{entry_of, holds, held_at_some, History, verdict, effect, extend_by, extend}
-use Rattle.ledger.specs.Promises.{Declares, at_day, Reinstates}
+use Rattle.ledger.specs.Promises.{Reinstates}
 use Rattle.ledger.specs.declared.LedgerRefusal.TheVariants.{NotDeclared}
-use Rattle.ledger.proofs.Rules.{holds-held, held-holds}
 
 abbrev pub declared_in : History → Bool
 declared_in h = held_at_some h.days
+
+-- a day that is accepted, and at which it holds
+pub data Sets (h : History) : Call → Type 0 where
+  set_at : (date : Date) (day : Day) → verdict h (enter date day) ≡ None → holds (entry_of date day) h.days ≡ true → Sets h (enter date day)
 
 a-day : (date : Date) (day : Day) → enter date day ≡ reinstate → ⊥
 a-day date day e = cc
@@ -34,9 +37,9 @@ module _ (h : History) where
       go true e = refl
       go false e = e
 
-  sets : (c : Call) → Declares h c → declared_in (extend h c) ≡ true
+  sets : (c : Call) → Sets h c → declared_in (extend h c) ≡ true
   unfolding held_at_some
-  sets c (at_day date day v held) = rw (v, held-holds (entry_of date day) h.days held)
+  sets c (set_at date day v held) = rw (v, held)
 
   keeps : (c : Call) → declared_in h ≡ true → ¬ Reinstates h c → declared_in (extend h c) ≡ true
   unfolding held_at_some
@@ -47,7 +50,7 @@ module _ (h : History) where
       go (Some refusal) = t
   keeps reinstate t r = absurd (r (refl, reinstates t))
 
-  only : (c : Call) → declared_in (extend h c) ≡ true → Declares h c ⊎ ((declared_in h ≡ true) × ¬ Reinstates h c)
+  only : (c : Call) → declared_in (extend h c) ≡ true → Sets h c ⊎ ((declared_in h ≡ true) × ¬ Reinstates h c)
   unfolding held_at_some
   only (enter date day) t = go (verdict h (enter date day)) refl t
     where
@@ -55,15 +58,15 @@ module _ (h : History) where
       kept e = (e, λ r. a-day date day r.0)
 
       by : verdict h (enter date day) ≡ None → (holds (entry_of date day) h.days ≡ true) ⊎ (declared_in h ≡ true)
-          → Declares h (enter date day) ⊎ ((declared_in h ≡ true) × ¬ Reinstates h (enter date day))
-      by v (inl e) = inl (at_day date day v (holds-held (entry_of date day) h.days e))
+          → Sets h (enter date day) ⊎ ((declared_in h ≡ true) × ¬ Reinstates h (enter date day))
+      by v (inl e) = inl (set_at date day v e)
       by v (inr e) = inr (kept e)
 
       go : (v : Verdict) → verdict h (enter date day) ≡ v → declared_in (extend_by v h (effect h (enter date day))) ≡ true
-          → Declares h (enter date day) ⊎ ((declared_in h ≡ true) × ¬ Reinstates h (enter date day))
+          → Sets h (enter date day) ⊎ ((declared_in h ≡ true) × ¬ Reinstates h (enter date day))
       go None v e = by v (or_cases (holds (entry_of date day) h.days) (declared_in h) e)
       go (Some refusal) v e = inr (kept e)
   only reinstate t = absurd (false≢true (sym not-reinstated ∙ t))
 
-pub declaration-laws : SetAndCleared extend Declares Reinstates declared_in
+pub declaration-laws : SetAndCleared extend Sets Reinstates declared_in
 declaration-laws = record { sets = sets; keeps = keeps; only = only }

@@ -1,8 +1,9 @@
 -- What belongs to no one function.
 pub mod Refusals
+pub mod Order
 pub mod Rules
 pub mod Summaries
 pub mod Tracks
 pub mod Declarations
+pub mod Undispatched
 pub mod Promised
-pub mod Order

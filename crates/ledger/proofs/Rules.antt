@@ -9,12 +9,14 @@ use borrow.Author.Tests.{leb-true, le-leb, not-true}
 use lib.Dec.{leb}
 use Rattle.trace.specs.Lists.{count_in}
 use Rattle.trace.proofs.Tests.{and_l, and_r, or_cases, or-neither}
-use Rattle.calendar.specs.Dates.{three_months_later}
+use Rattle.calendar.specs.Dates.{is_date, three_months_later, NoLater}
 use Rattle.calendar.specs.Ordinals.{ordinal_of}
+use Rattle.calendar.proofs.Order.{within-three-months}
 use Rattle.ledger.specs.Days.{is_conformant, is_instance}
-use Rattle.ledger.specs.History.{Entry, instance_day, conformant_day, Held, to_first, to_second, holds}
+use Rattle.ledger.specs.History.{Entry, instance_day, conformant_day, Held, to_first, to_second, holds, Descending}
 use Rattle.ledger.specs.declared.Conduct.{Conduct}
 use Rattle.ledger.specs.declared.Conduct.TheVariants.{Undispatched, Conformant, Nonconformant}
+use Rattle.ledger.proofs.Order.{dated}
 
 -- a count that is 0 is 0 of the first and of the rest
 none-counted : (t : Bool) (n : ℕ) → cond t (suc n) n ≡ 0 → (t ≡ false) × (n ≡ 0)
@@ -142,36 +144,41 @@ module _ (third : Entry) where
         go true i n next = back-first between met (omega arith) (rw (not-conformant e.conduct i, or-false met) at further)
         go false i n next = next n further
 
--- ---- the same
+-- ---- the same, of days in the order of their dates
 
-pub holds-held : (third : Entry) (days : List Entry) → holds third days ≡ true → Held (third ∷ days)
-unfolding holds
-holds-held third days t =
-    let b = second_back third days false (and_r (instance_day third) (to_second third false days) t) in
-    record {
-      third = third;
-      between = b.between;
-      first = b.first;
-      earlier = b.earlier;
-      splits = ap (λ (l : List Entry). third ∷ l) b.splits;
-      third_instance = and_l (instance_day third) (to_second third false days) t;
-      first_instance = b.instance-day;
-      second = b.passed;
-      rule = plain b.first b.between b.rule;
-    }
-  where
-    plain : (first : Entry) (between : List Entry) → Rule third first false between
-        → (ordinal_of third.date ≤ ordinal_of (three_months_later first.date)) ⊎ (count_in conformant_day between ≡ 0)
-    plain first between (inl l) = inl l
-    plain first between (inr (m, z)) = inr z
+module _ (third : Entry) (days : List Entry) (d : Descending (third ∷ days)) where
+  pub holds-held : holds third days ≡ true → Held (third ∷ days)
+  unfolding holds
+  holds-held t =
+      let b = second_back third days false (and_r (instance_day third) (to_second third false days) t) in
+      let splits = ap (λ (l : List Entry). third ∷ l) b.splits in
+      record {
+        third = third;
+        between = b.between;
+        first = b.first;
+        earlier = b.earlier;
+        splits = splits;
+        third_instance = and_l (instance_day third) (to_second third false days) t;
+        first_instance = b.instance-day;
+        second = b.passed;
+        rule = by-dates b.first b.between (dated d (third ∷ b.between) b.first b.earlier splits) b.rule;
+      }
+    where
+      by-dates : (first : Entry) (between : List Entry) → is_date first.date ≡ true → Rule third first false between
+          → NoLater third.date (three_months_later first.date) ⊎ (count_in conformant_day between ≡ 0)
+      by-dates first between f (inl l) = inl ((within-three-months third.date first.date (dated d [] third days refl) f).0 l)
+      by-dates first between f (inr (m, z)) = inr z
 
-pub held-holds : (third : Entry) (days : List Entry) → Held (third ∷ days) → holds third days ≡ true
-unfolding holds
-held-holds third days h =
-    rw (head-eq_of_cons-eq h.splits, tail-eq_of_cons-eq h.splits, h.third_instance)
-    (back-second h.third h.first h.earlier h.first_instance h.between false h.second (met-none h.rule))
-  where
-    met-none : (ordinal_of h.third.date ≤ ordinal_of (three_months_later h.first.date)) ⊎ (count_in conformant_day h.between ≡ 0)
-        → Rule h.third h.first false h.between
-    met-none (inl l) = inl l
-    met-none (inr z) = inr (refl, z)
+  pub held-holds : Held (third ∷ days) → holds third days ≡ true
+  unfolding holds
+  held-holds h =
+      rw (head-eq_of_cons-eq h.splits, tail-eq_of_cons-eq h.splits, h.third_instance)
+      (back-second h.third h.first h.earlier h.first_instance h.between false h.second (by-ordinals h.rule))
+    where
+      by-ordinals : NoLater h.third.date (three_months_later h.first.date) ⊎ (count_in conformant_day h.between ≡ 0)
+          → Rule h.third h.first false h.between
+      by-ordinals (inl n) =
+          let third-dated = dated d [] h.third (h.between ++ (h.first ∷ h.earlier)) h.splits in
+          let first-dated = dated d (h.third ∷ h.between) h.first h.earlier h.splits in
+          inl ((within-three-months h.third.date h.first.date third-dated first-dated).1 n)
+      by-ordinals (inr z) = inr (refl, z)

@@ -1,9 +1,10 @@
 -- What has happened, worked out from the calls alone, first call to last: no ledger goes in. It keeps every day that was accepted since the
 -- last accepted reinstatement, and the rule of 2026-05 is read off these days.
-use Rattle.std.specs.Prelude.{◌≡◌, ◌⊎◌, Bool, true, false, cond, not, ◌&&◌, ◌||◌, List, [], ◌∷◌, ◌++◌, ℕ, ◌≤◌, leb, Option, Some, None}
+use Rattle.std.specs.Prelude.{◌≡◌, ◌⊎◌, Bool, true, false, cond, not, ◌&&◌, ◌||◌, ℕ, leb, Option, Some, None}
+use Rattle.std.specs.Prelude.{List, [], ◌∷◌, ◌++◌}
 use Rattle.trace.specs.Lists.{fold, count_in}
 use Rattle.trace.specs.Refusals.{first_refusal, first_of}
-use Rattle.calendar.specs.Dates.{is_date, three_months_later}
+use Rattle.calendar.specs.Dates.{is_date, three_months_later, Earlier, NoLater}
 use Rattle.calendar.specs.Ordinals.{ordinal_of}
 use Rattle.calendar.specs.declared.Date.{Date}
 use Rattle.response.specs.declared.Day.{Day}
@@ -41,9 +42,10 @@ pub record Held (days : List Entry) : Type 0 where
   pub third_instance : instance_day third ≡ true
   pub first_instance : instance_day first ≡ true
   pub second : count_in instance_day between ≡ 1
-  pub rule : (ordinal_of third.date ≤ ordinal_of (three_months_later first.date)) ⊎ (count_in conformant_day between ≡ 0)
+  pub rule : NoLater third.date (three_months_later first.date) ⊎ (count_in conformant_day between ≡ 0)
 
--- The same, worked out: from the third back to the second, and on to the first, with whether a conformant day was met on the way.
+-- The same, worked out, with ordinals for dates: from the third back to the second, and on to the first, with whether a conformant day was met
+-- on the way.
 unfoldable pub to_first : Entry → Bool → List Entry → Bool
 to_first third met [] = false
 to_first third met (e ∷ days) =
@@ -78,7 +80,7 @@ pub record History : Type 0 where
 abbrev pub begin : History
 begin = record { latest = None; days = [] }
 
--- "date not later than the last accepted one"
+-- "date not later than the last accepted one", by ordinals
 abbrev pub not_later : Date → Latest → Bool
 not_later date None = false
 not_later date (Some last) = leb (ordinal_of date) (ordinal_of last)
@@ -109,3 +111,21 @@ extend h c = extend_by (verdict h c) h (effect h c)
 
 abbrev pub history : List Call → History
 history = fold extend begin
+
+-- ---- the order of the days, by year, month and day
+
+-- later than the last accepted one, where there is one
+abbrev pub Later : Date → Latest → Type 0
+Later date None = Unit {0}
+Later date (Some last) = Earlier last date
+
+-- the date of the latest of these days
+abbrev pub latest_day : List Entry → Latest
+latest_day [] = None
+latest_day (e ∷ days) = Some e.date
+
+-- each day has a date that there is, later than that of the day listed behind it
+pub data Descending : List Entry → Type 0 where
+  no_day : Descending []
+  later_day : {e : Entry} {days : List Entry} → is_date e.date ≡ true → Later e.date (latest_day days) → Descending days
+      → Descending (e ∷ days)

@@ -1,12 +1,14 @@
 -- What holds of every list of calls, refused ones included, from the empty ledger on (02, 2026-05: "declared holds exactly when that rule
 -- held at some day since the last accepted reinstatement, or since the start if there was none").
-use Rattle.std.specs.Prelude.{◌≡◌, ◌↔◌, true, List, ◌∷◌, map, None}
+use Rattle.std.specs.Prelude.{◌≡◌, ◌↔◌, true, List, ◌∷◌, map, Some, None}
 use Rattle.trace.specs.Lists.{outcomes, Since}
+use Rattle.calendar.specs.Dates.{is_date}
+use Rattle.calendar.specs.Ordinals.{ordinal_of}
 use Rattle.calendar.specs.declared.Date.{Date}
 use Rattle.response.specs.declared.Day.{Day}
 use Rattle.ledger.specs.Ledgers.{empty}
-use Rattle.ledger.specs.Calls.{Call, enter, reinstate, verdict_number, after, run}
-use Rattle.ledger.specs.History.{entry_of, Held, held_at_some, History, begin, refusal, verdict, extend, history}
+use Rattle.ledger.specs.Calls.{Call, enter, reinstate, verdict_number, next, answer, after, run}
+use Rattle.ledger.specs.History.{entry_of, Held, held_at_some, History, begin, refusal, verdict, extend, history, Later, Descending}
 use Rattle.ledger.specs.declared.Ledger.{Ledger}
 
 -- a day that is accepted, and at which the rule holds of the days since reinstatement
@@ -21,6 +23,12 @@ Reinstates h c = (c ≡ reinstate) × (verdict h c ≡ None)
 abbrev pub Declared : List Call → Type 0
 Declared calls = Since extend Declares Reinstates begin calls
 
+-- "A day result with T = 0 is a day without dispatch and changes only the latest date"
+pub record OnlyLatest (l : Ledger) (date : Date) (new : Ledger) : Type 0 where
+  pub latest : new.latest ≡ Some (ordinal_of date)
+  pub instances : new.instances ≡ l.instances
+  pub declared : new.declared ≡ l.declared
+
 pub record Promise (l : Ledger) : Type 0 where
   pub exactly : (calls : List Call) → ((after l calls).declared ≡ true) ↔ Declared calls
   -- the same by the history's own recursion, by which a reinstatement is accepted
@@ -28,6 +36,13 @@ pub record Promise (l : Ledger) : Type 0 where
   -- every acceptance and refusal is the one that the history gives, and so is its number
   pub bridge : (calls : List Call) → run l calls ≡ outcomes extend verdict begin calls
   pub numbers : (calls : List Call) → map verdict_number (run l calls) ≡ outcomes extend refusal begin calls
+  -- a day is accepted exactly where there is such a date, later by year, month and day than the last accepted one
+  pub acceptance : (calls : List Call) (date : Date) (day : Day)
+      → (answer (after l calls) (enter date day) ≡ None) ↔ ((is_date date ≡ true) × Later date (history calls).latest)
+  -- and the days since the last accepted reinstatement are in that order
+  pub order : (calls : List Call) → Descending (history calls).days
+  pub undispatched : (calls : List Call) (date : Date) (day : Day) → day.target ≡ 0 → answer (after l calls) (enter date day) ≡ None
+      → OnlyLatest (after l calls) date (next (after l calls) (enter date day))
 
 -- what the function that makes the empty ledger promises
 pub record Begins (r : Ledger) : Type 0 where
