@@ -4,7 +4,8 @@
 
 mod totals;
 
-ghost use Rattle.std.specs.Prelude.{◌≡◌, true, ◌^◌, ◌<◌, nat_abs};
+ghost use Rattle.std.specs.Prelude.{◌≡◌, true, ◌^◌, ◌<◌, nat_abs, drop};
+ghost use Rattle.wire.specs.Fields.{word_at};
 ghost use Rattle.records.specs.Records.{day_bounded};
 ghost use Rattle.response.specs.Days.{day_flag, day_of};
 ghost use Rattle.response.specs.Answers.{day_refusal_number, day_refusal, answer_of, file_refusal, file_answer, Answers};
@@ -78,7 +79,7 @@ fn assessed(earlier: u32, records: &[u8; RECORD_BYTES]) -> Day
 
 // The day whose records these are, after one whose last target was `earlier`. The two stay apart: `records::day_bounded` says why.
 pub fn assess_day(earlier: u32, records: &[u8]) -> Result<Day, DayRefusal>
-    ensures { Answers (answer_of earlier records.now) (day_refusal earlier records.now) result }
+    ensures { Answers earlier records.now (answer_of earlier records.now) (day_refusal earlier records.now) result }
 {
     let Some(records) = records.as_array() else {
         return Err(DayRefusal::Size);
@@ -91,7 +92,7 @@ pub fn assess_day(earlier: u32, records: &[u8]) -> Result<Day, DayRefusal>
 
 // The day that a file's bytes hold: the earlier target's 4 bytes, then the records.
 pub fn assess_file(bytes: &[u8]) -> Result<Day, DayRefusal>
-    ensures { Answers (file_answer bytes.now) (file_refusal bytes.now) result }
+    ensures { Answers (word_at bytes.now 0) (drop 4 bytes.now) (file_answer bytes.now) (file_refusal bytes.now) result }
 {
     let Some((earlier, records)) = bytes.split_first_chunk::<4>() else {
         return Err(DayRefusal::Size);
