@@ -25,7 +25,7 @@ a-day date day e = cc
 
 module _ (h : History) where
   -- a reinstatement is accepted exactly where the test is set, and clears it
-  reinstates : declared_in h ≡ true → verdict h reinstate ≡ None
+  pub reinstates : declared_in h ≡ true → verdict h reinstate ≡ None
   unfolding first_of
   reinstates t = rw t
 

@@ -5,5 +5,6 @@ pub mod Rules
 pub mod Summaries
 pub mod Tracks
 pub mod Declarations
+pub mod Conducts
 pub mod Undispatched
 pub mod Promised

@@ -1,12 +1,12 @@
 -- What holds of every list of calls from the empty ledger on. Assumes nothing.
 use mathlib.Core.Path.{◌≡◌, refl, sym, ap, ◌∙◌}
 use mathlib.Core.Logic.{◌↔◌}
-use mathlib.Core.Bool.{Bool, true, false, false≢true}
+use mathlib.Core.Bool.{Bool, true, false, not, false≢true}
 use mathlib.Core.List.{List, [], ◌∷◌, map}
 use Prim.Native.Nat.{ℕ}
 use Rattle.std.specs.Prelude.{Option, Some, None}
 use Rattle.trace.specs.Lists.{outcomes, Since}
-use Rattle.trace.specs.Refusals.{answered_by, result_number}
+use Rattle.trace.specs.Refusals.{first_of, answered_by, result_number}
 use Rattle.trace.proofs.Refusals.{answered-number}
 use Rattle.trace.proofs.Lists.{follows, same-outcomes, since-test, test-since}
 use Rattle.calendar.specs.Dates.{is_date}
@@ -17,8 +17,10 @@ use Rattle.ledger.specs.Calls.{Call, enter, reinstate, Verdict, verdict_number, 
 use Rattle.ledger.specs.History.{entry_of, held_at_some, History, begin, refusal, refusals, verdict, extend, history, Later}
 use Rattle.ledger.specs.Promises.{Declares, at_day, Reinstates, Declared, Begins}
 use Rattle.ledger.specs.declared.Instance.{Instance}
+use Rattle.ledger.specs.declared.LedgerRefusal.TheVariants.{NotDeclared}
 use Rattle.ledger.proofs.Tracks.{Tracks, tracks-empty, tracks-laws}
-use Rattle.ledger.proofs.Declarations.{Sets, set_at, declaration-laws}
+use Rattle.ledger.proofs.Conducts.{conducts}
+use Rattle.ledger.proofs.Declarations.{Sets, set_at, reinstates, declaration-laws}
 use Rattle.ledger.proofs.Order.{in-order, accepted-later, enters}
 use Rattle.ledger.proofs.Rules.{holds-held, held-holds}
 use Rattle.ledger.proofs.Undispatched.{only-latest}
@@ -77,6 +79,20 @@ acceptance calls date day =
     let by-history = accepted-later (history calls) (in-order calls) date day in
     (λ e. by-history.0 (sym same ∙ e), λ p. same ∙ by-history.1 p)
 
+reinstated-by : (h : History) → (verdict h reinstate ≡ None) ↔ (held_at_some h.days ≡ true)
+unfolding first_of
+reinstated-by h = (go (held_at_some h.days), λ t. reinstates h t)
+  where
+    go : (t : Bool) → first_of ((NotDeclared, not t) ∷ []) ≡ None → t ≡ true
+    go true e = refl
+    go false e = cc
+
+reinstatement : (calls : List Call) → (answer (after empty calls) reinstate ≡ None) ↔ Declared calls
+reinstatement calls =
+    let same = answers calls reinstate in
+    let by-history = reinstated-by (history calls) in
+    (λ e. (recursive calls).0 (by-history.0 (sym same ∙ e)), λ d. same ∙ by-history.1 ((recursive calls).1 d))
+
 -- ---- the numbers of the refusals
 
 number_by : (v : Verdict) → result_number refusal_number (answered_by v empty) ≡ verdict_number v
@@ -108,6 +124,8 @@ begins =
             numbers = λ calls. ap (λ (verdicts : List Verdict). map verdict_number verdicts) (bridge calls) ∙ numbers-of calls begin;
             acceptance = acceptance;
             order = λ calls. (in-order calls).days;
+            reinstatement = reinstatement;
+            conduct = conducts;
             undispatched = λ calls date day. only-latest (after empty calls) date day;
           };
     }

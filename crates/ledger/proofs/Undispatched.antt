@@ -1,5 +1,5 @@
 -- An accepted day with T = 0 changes the latest date and nothing else, whatever the ledger. Assumes nothing.
-use mathlib.Core.Path.{◌≡◌, refl}
+use mathlib.Core.Path.{◌≡◌, refl, ◌∙◌}
 use mathlib.Core.Bool.{not, or-false}
 use mathlib.Core.List.{[], ◌∷◌}
 use borrow.Author.Tests.{eq-eqb}
@@ -12,7 +12,7 @@ use Rattle.response.specs.declared.Day.{Day}
 use Rattle.ledger.specs.Days.{conduct_of}
 use Rattle.ledger.specs.Ledgers.{instances_after, entered, not_after, enter_of}
 use Rattle.ledger.specs.Calls.{enter, Verdict, verdict_of, ledger_after, next, answer}
-use Rattle.ledger.specs.Promises.{OnlyLatest}
+use Rattle.ledger.specs.Promises.{with_latest}
 use Rattle.ledger.specs.declared.Conduct.{Conduct}
 use Rattle.ledger.specs.declared.Conduct.TheVariants.{Undispatched}
 use Rattle.ledger.specs.declared.Ledger.{Ledger}
@@ -23,18 +23,17 @@ unfolding conduct_of
 undispatched day e = rw (eq-eqb day.target 0 e)
 
 module _ (l : Ledger) (date : Date) where
-  entered-latest : (c : Conduct) → c ≡ Undispatched → OnlyLatest l date (entered l (window_of date) c)
+  entered-latest : (c : Conduct) → c ≡ Undispatched → entered l (window_of date) c ≡ with_latest l date
   unfolding entered window_of instances_after
-  entered-latest c e = rw e (record { latest = refl; instances = refl; declared = or-false l.declared })
+  entered-latest c e = rw (e, or-false l.declared)
 
   -- by the refusal
-  accepted-latest : (v : Verdict) (new : Ledger) → OnlyLatest l date new → verdict_of (answered_by v new) ≡ None
-      → OnlyLatest l date (ledger_after l (answered_by v new))
-  accepted-latest None new o e = o
-  accepted-latest (Some refusal) new o e = cc
+  accepted-new : (v : Verdict) (new : Ledger) → verdict_of (answered_by v new) ≡ None → ledger_after l (answered_by v new) ≡ new
+  accepted-new None new e = refl
+  accepted-new (Some refusal) new e = cc
 
-  pub only-latest : (day : Day) → day.target ≡ 0 → answer l (enter date day) ≡ None → OnlyLatest l date (next l (enter date day))
+  pub only-latest : (day : Day) → day.target ≡ 0 → answer l (enter date day) ≡ None → next l (enter date day) ≡ with_latest l date
   unfolding enter_of
-  only-latest day e =
-      accepted-latest (first_of ((NoDate, not (is_date date)) ∷ (NotLater, not_after (ordinal_of date) l.latest) ∷ [])) _
-      (entered-latest (conduct_of day) (undispatched day e))
+  only-latest day z e =
+      accepted-new (first_of ((NoDate, not (is_date date)) ∷ (NotLater, not_after (ordinal_of date) l.latest) ∷ [])) _ e
+      ∙ entered-latest (conduct_of day) (undispatched day z)

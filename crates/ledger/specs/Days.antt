@@ -1,5 +1,5 @@
 -- What a day is to the ledger (02, 2026-05; 002, section 4.1 (b)).
-use Rattle.std.specs.Prelude.{Bool, true, false, cond, ◌||◌, eqb, ltb, Option, is_some}
+use Rattle.std.specs.Prelude.{◌≡◌, ◌↔◌, ◌⊎◌, Bool, true, false, cond, ◌||◌, ◌<◌, eqb, ltb, Option, None, is_some}
 use Rattle.response.specs.declared.Day.{Day}
 use Rattle.records.specs.declared.Flag.{Flag}
 use Rattle.ledger.specs.declared.Conduct.{Conduct}
@@ -27,3 +27,13 @@ abbrev pub is_instance : Conduct → Bool
 is_instance Undispatched = false
 is_instance Conformant = false
 is_instance Nonconformant = true
+
+-- ---- the same said a second time, by T, the day's flag and the two counts alone
+
+abbrev pub Flagged : Day → Type 0
+Flagged day = ¬ (day.flag ≡ None) ⊎ ((0 < day.under) ⊎ (0 < day.over))
+
+pub record Conducts (day : Day) : Type 0 where
+  pub undispatched : (conduct_of day ≡ Undispatched) ↔ (day.target ≡ 0)
+  pub nonconformant : (conduct_of day ≡ Nonconformant) ↔ ((0 < day.target) × Flagged day)
+  pub conformant : (conduct_of day ≡ Conformant) ↔ ((0 < day.target) × ¬ Flagged day)

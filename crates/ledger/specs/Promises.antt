@@ -6,6 +6,7 @@ use Rattle.calendar.specs.Dates.{is_date}
 use Rattle.calendar.specs.Ordinals.{ordinal_of}
 use Rattle.calendar.specs.declared.Date.{Date}
 use Rattle.response.specs.declared.Day.{Day}
+use Rattle.ledger.specs.Days.{Conducts}
 use Rattle.ledger.specs.Ledgers.{empty}
 use Rattle.ledger.specs.Calls.{Call, enter, reinstate, verdict_number, next, answer, after, run}
 use Rattle.ledger.specs.History.{entry_of, Held, held_at_some, History, begin, refusal, verdict, extend, history, Later, Descending}
@@ -23,11 +24,9 @@ Reinstates h c = (c ≡ reinstate) × (verdict h c ≡ None)
 abbrev pub Declared : List Call → Type 0
 Declared calls = Since extend Declares Reinstates begin calls
 
--- "A day result with T = 0 is a day without dispatch and changes only the latest date"
-pub record OnlyLatest (l : Ledger) (date : Date) (new : Ledger) : Type 0 where
-  pub latest : new.latest ≡ Some (ordinal_of date)
-  pub instances : new.instances ≡ l.instances
-  pub declared : new.declared ≡ l.declared
+-- "changes only the latest date"
+abbrev pub with_latest : Ledger → Date → Ledger
+with_latest l date = record l { latest = Some (ordinal_of date) }
 
 pub record Promise (l : Ledger) : Type 0 where
   pub exactly : (calls : List Call) → ((after l calls).declared ≡ true) ↔ Declared calls
@@ -41,8 +40,12 @@ pub record Promise (l : Ledger) : Type 0 where
       → (answer (after l calls) (enter date day) ≡ None) ↔ ((is_date date ≡ true) × Later date (history calls).latest)
   -- and the days since the last accepted reinstatement are in that order
   pub order : (calls : List Call) → Descending (history calls).days
+  -- a reinstatement is accepted exactly where the unit is declared
+  pub reinstatement : (calls : List Call) → (answer (after l calls) reinstate ≡ None) ↔ Declared calls
+  -- what a day is, and "A day result with T = 0 is a day without dispatch and changes only the latest date"
+  pub conduct : (day : Day) → Conducts day
   pub undispatched : (calls : List Call) (date : Date) (day : Day) → day.target ≡ 0 → answer (after l calls) (enter date day) ≡ None
-      → OnlyLatest (after l calls) date (next (after l calls) (enter date day))
+      → next (after l calls) (enter date day) ≡ with_latest (after l calls) date
 
 -- what the function that makes the empty ledger promises
 pub record Begins (r : Ledger) : Type 0 where
