@@ -1,7 +1,10 @@
 -- What is kept with the aggregates of a plant (02, 2026-07), in any one state.
-use Rattle.std.specs.Prelude.{◌≡◌, ◌↔◌, true, ℕ, suc, ◌+◌, ◌<◌, is_some}
+use Rattle.std.specs.Prelude.{◌≡◌, ◌↔◌, true, List, map, ℕ, suc, ◌+◌, ◌<◌, is_some}
+use Rattle.aggregates.specs.Aggregates.{no_sums, add_members, aggregate_basis}
 use Rattle.targets.specs.Targets.{target_of}
+use Rattle.targets.specs.Compared.{Compares}
 use Rattle.plants.specs.Plants.{Plant, elem}
+use Rattle.intervals.specs.Assessments.{line_at, sight_at}
 use Rattle.intervals.specs.Monitors.{kept_at, target_at}
 use Rattle.intervals.specs.declared.Monitor.{Monitor}
 use Rattle.operators.specs.Operators.{ask, target}
@@ -19,3 +22,9 @@ pub record OwnTargets (plant : Plant) (m : Monitor) : Type 0 where
       → ((target_at m j).complete ≡ true) ↔ ((u : ℕ) → elem u (plant.members j) ≡ true → is_some (kept_at m u) ≡ true)
   -- "A new call on the aggregate's point returns them"
   pub told : (j : ℕ) → j < plant.aggregates → answer m (operate (ask target) (point_of plant j)) ≡ targeted (target_at m j)
+  -- Said once more without `target_of`, by what an interval compares with. Where the kept lines count and every member's line of the buffer
+  -- is readable, the stored sums are the MWB, up and down of the aggregate's error, so where the flag is true: a member of which nothing is
+  -- kept adds to neither, and the mark is BLANK
+  pub compared : (j : ℕ) → j < plant.aggregates → (buffer : List ℕ)
+      → ((u : ℕ) → elem u (plant.members j) ≡ true → is_some (line_at plant buffer u) ≡ true)
+      → Compares (aggregate_basis (add_members no_sums (map (sight_at plant buffer true (kept_at m)) (plant.members j)))) (target_at m j)

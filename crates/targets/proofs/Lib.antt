@@ -1,3 +1,4 @@
 -- What belongs to no one function.
 pub mod Walks
 pub mod Lines
+pub mod Compared

@@ -32,11 +32,11 @@ target_from t members =
       complete = t.complete && all_in has_line members;
     }
 
-from_start : (members : List Member) → target_from no_members members ≡ target_over members
+pub from_start : (members : List Member) → target_from no_members members ≡ target_over members
 unfolding target_from target_over
 from_start members = refl
 
-from_end : (t : Target) → target_from t [] ≡ t
+pub from_end : (t : Target) → target_from t [] ≡ t
 unfolding target_from
 from_end t = rw (and-true t.complete)
 
@@ -46,7 +46,7 @@ unfolding target_from add_member
 from_one t load (Some k) vs = refl
 from_one t load None vs = rw (and-false t.complete)
 
-from_more : (t : Target) (v : Member) (vs : List Member) → target_from t (v ∷ vs) ≡ target_from (add_member t v.load v.line) vs
+pub from_more : (t : Target) (v : Member) (vs : List Member) → target_from t (v ∷ vs) ≡ target_from (add_member t v.load v.line) vs
 from_more t v vs = from_one t v.load v.line vs
 
 -- ---- each member adds at most 2,000,000
