@@ -11,4 +11,8 @@ pub mod Pasts
 pub mod Declarations
 pub mod FirstMarks
 pub mod Reasons
+pub mod Fates
+pub mod Counting
+pub mod Accepted
+pub mod Restated
 pub mod Demand

@@ -1,6 +1,6 @@
 -- Demand 3, over every list of interval, declare, reinstate, look, reason and target calls, refused ones included, from a freshly accepted
 -- register on.
-use Rattle.std.specs.Prelude.{◌≡◌, ◌↔◌, ◌⊎◌, Bool, true, false, cond, ◌&&◌, List, [], ◌∷◌, ◌++◌, ℕ, zero, suc, ◌*◌, ◌≤◌, ℤ, length, take, drop, Ok}
+use Rattle.std.specs.Prelude.{◌≡◌, ◌↔◌, ◌⊎◌, Bool, true, false, cond, ◌&&◌, List, [], ◌∷◌, ◌++◌, ℕ, zero, suc, ◌+◌, ◌*◌, ◌≤◌, ℤ, length, take, drop, Ok}
 use Rattle.trace.specs.Lists.{outcomes, Alike, sights, Since}
 use Rattle.plants.specs.Plants.{Plant, place}
 use Rattle.marks.specs.Levels.{is_dispatchable}
@@ -61,13 +61,17 @@ seen plant g = sights (view plant g)
 
 -- ==== The second half: "a point is declared exactly when .."
 
+-- "Points are 1 to n for the units, n+1 to n+m for the aggregates" (01, "The register")
+abbrev pub IsPoint : Plant → ℕ → Type 0
+IsPoint plant p = (1 ≤ p) × (p ≤ plant.units + plant.aggregates)
+
 -- "an operator's declaration of it was accepted or, in automatic mode, a SMALL or LARGE mark of its own brought its small or large
 -- run to that run's length for declaration or beyond"
 pub data Declares (plant : Plant) (p : ℕ) (h : History) : Call → Type 0 where
   by_operator : (level : ℤ) → verdict plant h (operate (declare level) p) ≡ Ok tt → Declares plant p h (operate (declare level) p)
   by_mark : (buffer report : List ℕ)
       → verdict plant h (interval buffer report) ≡ Ok tt
-      → named plant p ≡ true
+      → IsPoint plant p
       → mode_of (header_of buffer) ≡ 1
       → ((assessment_then plant h buffer (place p)).mark ≡ Small) ⊎ ((assessment_then plant h buffer (place p)).mark ≡ Large)
       → (plant.small.declaration ≤ ((extend plant h (interval buffer report)).points (place p)).small.count)

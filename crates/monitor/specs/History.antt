@@ -157,13 +157,17 @@ shown_as plant automatic small large (declared level why) = declared_at level wh
 abbrev pub shown : Plant → Bool → Past → Point
 shown plant automatic q = shown_as plant automatic q.small q.large q.standing
 
+-- the report of an interval that is accepted, by the history before it
+abbrev pub report_then : Plant → History → List ℕ → List ℕ → List ℕ
+report_then plant h buffer report =
+    let then = effect plant h (interval buffer report) in
+    records (λ i. record_of (assessment_then plant h buffer i) (shown plant then.automatic (then.points i))) (total plant)
+
 -- the outcome of a call, by the history before it. An aggregate's target is what the lines that its units last sent add up to: no history of
 -- its own stands beside them
 abbrev pub foretold : Plant → History → Call → Outcome
 foretold plant h (interval buffer report) =
-    let then = effect plant h (interval buffer report) in
-    decide (verdict plant h (interval buffer report)) refusal
-    (reported (records (λ i. record_of (assessment_then plant h buffer i) (shown plant then.automatic (then.points i))) (total plant)))
+    decide (verdict plant h (interval buffer report)) refusal (reported (report_then plant h buffer report))
 foretold plant h (operate op p) =
     decide (verdict plant h (operate op p)) refusal
     (reply op (shown plant h.automatic (h.points (place p))) (target_of plant h.kept (aggregate_at plant (place p))))

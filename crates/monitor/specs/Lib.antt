@@ -3,5 +3,6 @@ pub mod Calls
 pub mod History
 pub mod Demands
 pub mod Reasons
+pub mod Restated
 pub mod Targets
 pub mod Loading

@@ -13,6 +13,7 @@ use Rattle.intervals.specs.declared.Monitor.{Monitor}
 use Rattle.monitor.specs.Calls.{Call, next, after}
 use Rattle.monitor.specs.Demands.{Demand3, Dispatchable}
 use Rattle.monitor.specs.Reasons.{Tellings}
+use Rattle.monitor.specs.Restated.{Restated}
 use Rattle.monitor.specs.Targets.{OwnTargets}
 use Rattle.monitor.specs.declared.Loaded.{Loaded}
 
@@ -60,9 +61,9 @@ in_force before (load bytes) = in_force_by before bytes (registered_of bytes)
 in_force before (call c) = before
 
 -- What load promises: its result, its number and visits in 01, and of the state that an accepted one returns demand 3 over the register's
--- chains, that no list of calls leads to a level that cannot be dispatched, and which reasons are told after each. After "every call of
--- every kind, refused ones included", later loads among them, the members that the state holds side by side are those of the chains of the
--- register in force (02, 2026-08), and what is kept with each aggregate goes by those chains (02, 2026-07).
+-- chains, that no list of calls leads to a level that cannot be dispatched, which reasons are told after each, and the rules of lists a second
+-- time. After "every call of every kind, refused ones included", later loads among them, the members that the state holds side by side are
+-- those of the chains of the register in force (02, 2026-08), and what is kept with each aggregate goes by those chains (02, 2026-07).
 pub record Loads (bytes : List ℕ) (r : Result Loaded RegisterRefusal) : Type 0 where
   pub result : r ≡ load_of bytes
   pub number : answer_number r ≡ register_refusal bytes
@@ -70,6 +71,7 @@ pub record Loads (bytes : List ℕ) (r : Result Loaded RegisterRefusal) : Type 0
   pub demand3 : (l : Loaded) → r ≡ Ok l → Demand3 (plant_from bytes) l.monitor
   pub levels : (l : Loaded) → r ≡ Ok l → (calls : List Call) → Dispatchable (plant_from bytes) (after l.monitor calls)
   pub reasons : (l : Loaded) → r ≡ Ok l → Tellings (plant_from bytes) l.monitor
+  pub restated : (l : Loaded) → r ≡ Ok l → Restated bytes (plant_from bytes) l.monitor
   pub members : (l : Loaded) → r ≡ Ok l → (calls : List AnyCall)
       → SideBySide (fields_of (fold in_force bytes calls)) (roster_in (fold next_of l.monitor calls))
   pub targets : (l : Loaded) → r ≡ Ok l → (calls : List AnyCall)
