@@ -16,3 +16,4 @@ pub mod Counting
 pub mod Accepted
 pub mod Restated
 pub mod Demand
+pub mod Examples

@@ -6,3 +6,4 @@ pub mod Reasons
 pub mod Restated
 pub mod Targets
 pub mod Loading
+pub mod Examples

@@ -1,0 +1,405 @@
+-- Worked examples, in bytes: the run of 01's "The program", those of SO_OP_3705 (000, A.5), and three more for what they leave open. A register,
+-- the buffers sent after it and the reports are written as numbers at 01's places, and every value is worked out by hand from the papers: nothing
+-- here goes by the definitions of fields, lines, rates, triggers, marks and runs. In comments power is in MW, and rates are in MW per minute.
+use Rattle.std.specs.Prelude.{◌≡◌, true, List, [], ◌∷◌, ◌++◌, ℕ, ◌-◌, ◌*◌, ◌/◌, ◌%◌, ℤ, pos, negsuc, take, replicate, Result, Ok, Err}
+use Rattle.register.specs.declared.RegisterRefusal.{RegisterRefusal}
+use Rattle.points.specs.declared.Run.{Run}
+use Rattle.points.specs.declared.Reason.{Reason}
+use Rattle.points.specs.declared.Reason.TheVariants.{ByOperator, BySmallRun, ByLargeRun}
+use Rattle.operators.specs.Operators.{declare, reinstate, ask, look, reason, target}
+use Rattle.monitor.specs.Calls.{Call, interval, operate, Outcome, refusal, reported, done, looked, reasoned, targeted, run}
+use Rattle.monitor.specs.Loading.{load_of}
+use Rattle.monitor.specs.declared.Loaded.{Loaded}
+
+-- ---- bytes
+
+-- "All fields are little-endian": the 4 bytes of each number
+abbrev pub words : List ℕ → List ℕ
+words [] = []
+words (n ∷ rest) = n % 256 ∷ n / 256 % 256 ∷ n / 65536 % 256 ∷ n / 16777216 % 256 ∷ words rest
+
+-- the number -n as an i32
+abbrev pub minus : ℕ → ℕ
+minus n = 4294967296 - n
+
+-- a register's header, with n, m, and the lengths of the small run and of the large one
+abbrev pub header : (units aggregates ns ps ds nl pl dl : ℕ) → List ℕ
+header units aggregates ns ps ds nl pl dl = units ∷ aggregates ∷ ns ∷ ps ∷ ds ∷ nl ∷ pl ∷ dl ∷ 0 ∷ 0 ∷ 0 ∷ 0 ∷ 0 ∷ 0 ∷ 0 ∷ 0 ∷ []
+
+-- a unit's record, and a head
+abbrev pub unit_record : (kind next : ℕ) → List ℕ
+unit_record kind next = kind ∷ next ∷ 0 ∷ 0 ∷ []
+
+abbrev pub head_record : (first : ℕ) → List ℕ
+head_record first = first ∷ 0 ∷ 0 ∷ 0 ∷ []
+
+-- a line: quality, conformance mode, MWB, MWO, FCR, FCL, bid ramp up and down; and by their bits MW, SCADA ramp up and down
+abbrev pub line : (quality mode mwb mwo fcr fcl bid_up bid_down mw scada_up scada_down : ℕ) → List ℕ
+line quality mode mwb mwo fcr fcl bid_up bid_down mw scada_up scada_down =
+    quality ∷ mode ∷ 0 ∷ 0 ∷ words (mwb ∷ mwo ∷ fcr ∷ fcl ∷ bid_up ∷ bid_down ∷ mw ∷ scada_up ∷ scada_down ∷ [])
+
+abbrev pub good_line : (mode mwb mwo fcr fcl bid_up bid_down mw scada_up scada_down : ℕ) → List ℕ
+good_line = line 0
+
+-- an interval's buffer: number, mode (0 manual, 1 automatic), zeros and the lines
+abbrev pub buffer : (number mode : ℕ) → List ℕ → List ℕ
+buffer number mode lines = words (number ∷ []) ++ (mode ∷ 0 ∷ 0 ∷ 0 ∷ lines)
+
+-- the report of so many points as it stood before, with 255 in each byte
+abbrev pub report_before : (points : ℕ) → List ℕ
+report_before points = replicate (16 * points) 255
+
+-- an interval in automatic mode
+abbrev pub sent : (points number : ℕ) → List ℕ → Call
+sent points number lines = interval (buffer number 1 lines) (report_before points)
+
+-- a point's record in the report
+abbrev pub point_record : (status mark small_run large_run error trigger level : ℕ) → List ℕ
+point_record status mark small_run large_run error trigger level =
+    status ∷ mark ∷ small_run ∷ large_run ∷ words (error ∷ trigger ∷ level ∷ [])
+
+-- a look's answer: status, both runs, each of which began in the interval of this number, and level
+abbrev pub look_shows : (status small_run large_run first : ℕ) → (level : ℤ) → Reason → Outcome
+look_shows status small_run large_run first level why =
+    let run_of : ℕ → Run = λ count. record { count = count; first = first } in
+    looked (record { status = status; small = run_of small_run; large = run_of large_run; level = level; reason = why })
+
+-- OFF of a member by itself, and BLANK, where nothing has been counted
+abbrev pub off : List ℕ
+off = point_record 0 0 0 0 0 0 0
+
+abbrev pub blank : List ℕ
+blank = point_record 0 1 0 0 0 0 0
+
+-- ---- the claim
+
+-- the visits of a load and the outcomes of the calls after it, or the load's refusal
+abbrev pub outcomes_by : Result Loaded RegisterRefusal → List Call → Result (ℕ × List Outcome) RegisterRefusal
+outcomes_by (Ok l) calls = Ok (l.visits, run l.monitor calls)
+outcomes_by (Err k) calls = Err k
+
+abbrev pub Gives : (register : List ℕ) → List Call → (visits : ℕ) → List Outcome → Type 0
+Gives register calls visits outcomes = outcomes_by (load_of register) calls ≡ Ok (visits, outcomes)
+
+-- ---- "The program": "One generating unit, good lines, conformance mode 0, lengths 2 3 4 2 3 4, automatic, intervals 10 to 12, MWB and
+-- MWO 100,000, no regulation, all rates 3 MW per minute, MW 100, 107, 93", and a look after them
+
+abbrev pub program_register : List ℕ
+program_register = header 1 0 2 3 4 2 3 4 ++ unit_record 1 0
+
+abbrev pub program_line : (mw : ℕ) → List ℕ
+program_line mw = good_line 0 100000 100000 0 0 3000 3000 mw 0x4040_0000 0x4040_0000
+
+abbrev pub program_calls : List Call
+program_calls =
+    sent 1 10 (program_line 0x42C8_0000)
+    ∷ sent 1 11 (program_line 0x42D6_0000)
+    ∷ sent 1 12 (program_line 0x42BA_0000)
+    ∷ operate (ask look) 1
+    ∷ []
+
+-- Small: 3% of 100 MW is 3, 2 × 3 is 6, and no trigger is under 6 MW. Large: 5 and 12; 6 MW. 7 MW off is past both
+abbrev pub program_outcomes : List Outcome
+program_outcomes =
+    reported (point_record 0 1 0 0 0 0 0)
+    ∷ reported (point_record 1 5 1 1 7000 600000 0)
+    ∷ reported (point_record 2 5 2 2 (minus 7000) 600000 0)
+    ∷ look_shows 2 2 2 11 (pos 0) ByOperator
+    ∷ []
+
+-- ---- "Individual unit": availability of 200 MW, ramp rate 2 up, and far more down; MWB 100, so above MW. "the large error trigger is 8 MW"
+-- (10 and 8), "the small error trigger is 6 MW" (6 and 4, and no trigger is under 6). A generating unit at 91.5, 8.5 under, and a load at 93, 7
+-- under, interval after interval: Not-Responding at 3 large ones and at 6 small ones, NC-Pending at 5 and 8, and Non-Conforming with the next
+
+abbrev pub individual_register : List ℕ
+individual_register = header 2 0 6 8 9 3 5 6 ++ (unit_record 1 0 ++ unit_record 2 0)
+
+abbrev pub individual_interval : ℕ → Call
+individual_interval number =
+    sent 2 number
+    (good_line 0 100000 200000 0 0 2000 50000 0x42B7_0000 0x4000_0000 0x4248_0000
+    ++ good_line 0 100000 200000 0 0 2000 50000 0x42BA_0000 0x4000_0000 0x4248_0000)
+
+abbrev pub individual_calls : List Call
+individual_calls =
+    individual_interval 1
+    ∷ individual_interval 2
+    ∷ individual_interval 3
+    ∷ individual_interval 4
+    ∷ individual_interval 5
+    ∷ individual_interval 6
+    ∷ individual_interval 7
+    ∷ individual_interval 8
+    ∷ individual_interval 9
+    ∷ individual_interval 10
+    ∷ operate (ask reason) 1
+    ∷ operate (ask reason) 2
+    ∷ []
+
+abbrev pub large_error : (status small_run large_run level : ℕ) → List ℕ
+large_error status small_run large_run level = point_record status 5 small_run large_run (minus 8500) 600000 level
+
+abbrev pub small_error : (status small_run level : ℕ) → List ℕ
+small_error status small_run level = point_record status 4 small_run 0 (minus 7000) 600000 level
+
+abbrev pub individual_outcomes : List Outcome
+individual_outcomes =
+    reported (blank ++ blank)
+    ∷ reported (large_error 1 1 1 0 ++ small_error 1 1 0)
+    ∷ reported (large_error 1 2 2 0 ++ small_error 1 2 0)
+    ∷ reported (large_error 2 3 3 0 ++ small_error 1 3 0)
+    ∷ reported (large_error 2 4 4 0 ++ small_error 1 4 0)
+    ∷ reported (large_error 3 5 5 0 ++ small_error 1 5 0)
+    ∷ reported (large_error 4 0 0 91500 ++ small_error 2 6 0)
+    ∷ reported (large_error 4 0 0 91500 ++ small_error 2 7 0)
+    ∷ reported (large_error 4 0 0 91500 ++ small_error 3 8 0)
+    ∷ reported (large_error 4 0 0 91500 ++ small_error 4 0 93000)
+    ∷ reasoned (ByLargeRun (record { first = 2; last = 7 }))
+    ∷ reasoned (BySmallRun (record { first = 2; last = 10 }))
+    ∷ []
+
+-- ---- A.5's aggregates, of generating units where its units are semi-scheduled, which stand in no chain. A.5's lengths of runs are 6, 8 and the
+-- one after it for small errors, 3, 5 and the one after it for large ones
+
+-- "Cap Aggregate": 100 MW with rates 2 up and 1 down, 200 MW with 3 up and 2 down, MWB 50 and 100, MW 61.5 or 62.5, and 100.
+-- "Aggregate Dispatch Target < Aggregate Actual MW", so down: 3. Small: 3% of 300 is 9, 2 × 3 is 6; 6 MW. Large: 15 and 12; 12 MW.
+-- With 5 up they would be 9 and 15 MW. 161.5 - 150 is 11.5, 162.5 - 150 is 12.5
+abbrev pub cap_register : List ℕ
+cap_register = header 2 1 6 8 9 3 5 6 ++ (unit_record 1 2 ++ (unit_record 1 0 ++ head_record 1))
+
+abbrev pub cap_lines : (mw : ℕ) → List ℕ
+cap_lines mw =
+    good_line 1 50000 100000 0 0 2000 1000 mw 0x4000_0000 0x3F80_0000
+    ++ good_line 1 100000 200000 0 0 3000 2000 0x42C8_0000 0x4040_0000 0x4000_0000
+
+abbrev pub cap_calls : List Call
+cap_calls = sent 3 1 (cap_lines 0x4276_0000) ∷ sent 3 2 (cap_lines 0x4276_0000) ∷ sent 3 3 (cap_lines 0x427A_0000) ∷ []
+
+abbrev pub cap_outcomes : List Outcome
+cap_outcomes =
+    reported (off ++ (off ++ blank))
+    ∷ reported (off ++ (off ++ point_record 1 4 1 0 11500 600000 0))
+    ∷ reported (off ++ (off ++ point_record 1 5 2 1 12500 600000 0))
+    ∷ []
+
+-- "Mixed Aggregate", "with individual and aggregated dispatch conformance": 100 MW with rates 1 up and 2 down, conformance mode 2, and a
+-- bidirectional unit, 200 MW with 3 up and 2 down. MWB 50 and -20, MW 56.5 or 50, and -35.5.
+-- The aggregate's target of 30 is above its MW, so up: 4. Small: 9 and 8; 8 MW. Large: 15 and 16; "The aggregate large error trigger = 15 MW".
+-- 21 - 30 is -9, 14.5 - 30 is -15.5. The unit in mode 2 is past its own 6 MW by 6.5, and then on its target
+abbrev pub mixed_register : List ℕ
+mixed_register = header 2 1 6 8 9 3 5 6 ++ (unit_record 1 2 ++ (unit_record 3 0 ++ head_record 1))
+
+abbrev pub mixed_lines : (mw : ℕ) → List ℕ
+mixed_lines mw =
+    good_line 2 50000 100000 0 0 1000 2000 mw 0x3F80_0000 0x4000_0000
+    ++ good_line 1 (minus 20000) 200000 0 0 3000 2000 0xC20E_0000 0x4040_0000 0x4000_0000
+
+abbrev pub mixed_calls : List Call
+mixed_calls = sent 3 1 (mixed_lines 0x4262_0000) ∷ sent 3 2 (mixed_lines 0x4262_0000) ∷ sent 3 3 (mixed_lines 0x4248_0000) ∷ []
+
+abbrev pub mixed_outcomes : List Outcome
+mixed_outcomes =
+    reported (blank ++ (off ++ blank))
+    ∷ reported (point_record 1 5 1 1 6500 600000 0 ++ (off ++ point_record 1 4 1 0 (minus 9000) 800000 0))
+    ∷ reported (point_record 0 2 0 0 0 600000 0 ++ (off ++ point_record 1 5 2 1 (minus 15500) 800000 0))
+    ∷ []
+
+-- "Target Aggregate": 200 MW with rates 2 up and 3 down, FCL 10, and a load, 200 MW with 2 up and 4 down. MWB 150 or 200, and 100.
+-- "Aggregate Dispatch Target > Aggregate Actual MW", so 2 up of the one, 4 down of the load, and the greater is 4. Small: 6 and 8; 6 MW.
+-- Large: 10 and 16; 10 MW: "10 + 0 + 0" over the target, "10 + 10 + 0" under it. By the load's rate up it would be 8 MW.
+-- Kept 150 - 100: 131 - 100 is 19 under, 9 past FCL; 161 - 100 is 11 over. Kept 200 - 100: 179 - 100 is 21 under, 11 past FCL
+abbrev pub target_register : List ℕ
+target_register = header 2 1 6 8 9 3 5 6 ++ (unit_record 1 2 ++ (unit_record 2 0 ++ head_record 1))
+
+abbrev pub target_lines : (mwb mw : ℕ) → List ℕ
+target_lines mwb mw =
+    good_line 1 mwb 200000 0 10000 2000 3000 mw 0x4000_0000 0x4040_0000
+    ++ good_line 1 100000 200000 0 0 2000 4000 0x42C8_0000 0x4000_0000 0x4080_0000
+
+abbrev pub target_calls : List Call
+target_calls =
+    sent 3 1 (target_lines 150000 0x4303_0000)
+    ∷ sent 3 2 (target_lines 150000 0x4303_0000)
+    ∷ sent 3 3 (target_lines 200000 0x4321_0000)
+    ∷ sent 3 4 (target_lines 200000 0x4333_0000)
+    ∷ []
+
+abbrev pub target_outcomes : List Outcome
+target_outcomes =
+    reported (off ++ (off ++ blank))
+    ∷ reported (off ++ (off ++ point_record 1 4 1 0 (minus 9000) 600000 0))
+    ∷ reported (off ++ (off ++ point_record 1 5 2 1 11000 600000 0))
+    ∷ reported (off ++ (off ++ point_record 1 5 3 2 (minus 11000) 600000 0))
+    ∷ []
+
+-- ---- what A.5 leaves open
+
+-- A generating unit, a load and a bidirectional unit, each in no chain, with MWB 100, MWO 400, FCR 5 and FCL 2. Rates up are 4 by SCADA and 6 as
+-- bid, so 4; down 7 and 5, so 5. At 124 MW down counts. Small: 12 and 10; 10 MW. Large: 20 and 20; 20 MW. For the load up is FCL: 124 - 102 is
+-- 22, for the others FCR: 124 - 105 is 19. At 81 up counts. Small: 12 and 8; 8 MW. Large: 20 and 16; 16 MW. For the load down is FCR: 95 - 81 is
+-- 14, for the others FCL: 98 - 81 is 17. On target the least of four rates counts: SCADA up 4; bid down 5; bid up 3
+abbrev pub kinds_register : List ℕ
+kinds_register = header 3 0 2 3 4 2 3 4 ++ (unit_record 1 0 ++ (unit_record 2 0 ++ unit_record 3 0))
+
+abbrev pub kinds_line : (mw bid_up bid_down scada_up scada_down : ℕ) → List ℕ
+kinds_line mw bid_up bid_down scada_up scada_down = good_line 0 100000 400000 5000 2000 bid_up bid_down mw scada_up scada_down
+
+abbrev pub kinds_lines : (mw : ℕ) → List ℕ
+kinds_lines mw =
+    let each = kinds_line mw 6000 5000 0x4080_0000 0x40E0_0000 in
+    each ++ (each ++ each)
+
+abbrev pub kinds_lines_on_target : List ℕ
+kinds_lines_on_target =
+    kinds_line 0x42C8_0000 6000 5000 0x4080_0000 0x40E0_0000
+    ++ (kinds_line 0x42C8_0000 6000 5000 0x40E0_0000 0x40C0_0000
+    ++ kinds_line 0x42C8_0000 3000 6000 0x4080_0000 0x40E0_0000)
+
+abbrev pub kinds_calls : List Call
+kinds_calls =
+    sent 3 1 (kinds_lines 0x42F8_0000)
+    ∷ sent 3 2 (kinds_lines 0x42F8_0000)
+    ∷ sent 3 3 (kinds_lines 0x42A2_0000)
+    ∷ sent 3 4 kinds_lines_on_target
+    ∷ []
+
+abbrev pub kinds_outcomes : List Outcome
+kinds_outcomes =
+    reported (blank ++ (blank ++ blank))
+    ∷ reported
+    (point_record 1 4 1 0 19000 1000000 0 ++ (point_record 1 5 1 1 22000 1000000 0 ++ point_record 1 4 1 0 19000 1000000 0))
+    ∷ reported
+    (point_record 2 5 2 1 (minus 17000) 800000 0
+    ++ (point_record 2 4 2 0 (minus 14000) 800000 0
+    ++ point_record 2 5 2 1 (minus 17000) 800000 0))
+    ∷ reported
+    (point_record 0 2 0 0 0 800000 0 ++ (point_record 0 2 0 0 0 1000000 0 ++ point_record 0 2 0 0 0 600000 0))
+    ∷ []
+
+-- An aggregate whose sums differ on both sides: 300 MW with rates 1 up and 5 down, FCR 4 and FCL 1, and a load, 100 MW with 2 up and 4 down,
+-- FCR 2 and FCL 3, conformance mode 0. Kept MWB 200 - 50, then others and no regulation; MW 190.5 - 60, then 225.5 - 60.
+-- Under the target: 1 up against the load's 4 down, so 4, and 300 against 100. Small: 9 and 8; 8 MW. Large: 15 and 16; 15 MW. Down is 1 + 3:
+-- 130.5 is 15.5 under 146. Over it: 5 down against the load's 2 up. Small: 9 and 10; 9 MW. Large: 15 and 20. Up is 4 + 2: 165.5 is 9.5 over 156.
+-- Its own target is 200 - 50, with 4 + 2 and 1 + 3
+abbrev pub sides_register : List ℕ
+sides_register = header 2 1 2 3 4 2 3 4 ++ (unit_record 1 2 ++ (unit_record 2 0 ++ head_record 1))
+
+abbrev pub sides_lines : (mwb fcr fcl mw load_fcr load_fcl : ℕ) → List ℕ
+sides_lines mwb fcr fcl mw load_fcr load_fcl =
+    good_line 1 mwb 300000 fcr fcl 1000 5000 mw 0x3F80_0000 0x40A0_0000
+    ++ good_line 0 50000 100000 load_fcr load_fcl 2000 4000 0x4270_0000 0x4000_0000 0x4080_0000
+
+abbrev pub sides_calls : List Call
+sides_calls =
+    sent 3 1 (sides_lines 200000 4000 1000 0x433E_8000 2000 3000)
+    ∷ sent 3 2 (sides_lines 200000 4000 1000 0x433E_8000 2000 3000)
+    ∷ operate (ask target) 3
+    ∷ sent 3 3 (sides_lines 160000 0 0 0x4361_8000 0 0)
+    ∷ []
+
+abbrev pub sides_outcomes : List Outcome
+sides_outcomes =
+    reported (off ++ (off ++ blank))
+    ∷ reported (off ++ (off ++ point_record 1 5 1 1 (minus 15500) 800000 0))
+    ∷ targeted (record { target = pos 150000; raise = 6000; lower = 4000; complete = true })
+    ∷ reported (off ++ (off ++ point_record 2 4 2 0 9500 900000 0))
+    ∷ []
+
+-- The unit of "The program", at 107 again and again: modes, refusals, a jump in numbers and operator calls. Refused are an interval that is not
+-- above the last, a mode above 1, each spare byte, a line or a report that is a byte short, and with them nothing changes. "Manual mode shows 2
+-- instead of 3", and declares nothing. A jump leaves the mark BLANK and the runs. At a mark in automatic mode it is declared, at its MW
+abbrev pub calls_line : List ℕ
+calls_line = program_line 0x42D6_0000
+
+abbrev pub headed : (mode first_spare second_spare third_spare : ℕ) → Call
+headed mode first_spare second_spare third_spare =
+    interval (words (12 ∷ []) ++ (mode ∷ first_spare ∷ second_spare ∷ third_spare ∷ calls_line)) (report_before 1)
+
+abbrev pub manual : (number : ℕ) → Call
+manual number = interval (buffer number 0 calls_line) (report_before 1)
+
+abbrev pub calls_list : List Call
+calls_list =
+    sent 1 10 calls_line
+    ∷ sent 1 11 calls_line
+    ∷ sent 1 11 calls_line
+    ∷ headed 2 0 0 0
+    ∷ headed 1 1 0 0
+    ∷ headed 1 0 1 0
+    ∷ headed 1 0 0 1
+    ∷ interval (take 47 (buffer 12 1 calls_line)) (report_before 1)
+    ∷ interval (buffer 12 1 calls_line) (replicate 15 255)
+    ∷ operate (declare (pos 5000)) 1
+    ∷ manual 12
+    ∷ manual 13
+    ∷ operate (ask look) 1
+    ∷ manual 14
+    ∷ sent 1 16 calls_line
+    ∷ operate (ask reason) 1
+    ∷ sent 1 17 calls_line
+    ∷ operate (declare (pos 5000)) 1
+    ∷ operate (ask reason) 1
+    ∷ operate reinstate 1
+    ∷ operate reinstate 1
+    ∷ operate (ask look) 1
+    ∷ sent 1 18 calls_line
+    ∷ sent 1 19 (line 1 0 100000 100000 0 0 3000 3000 0x42D6_0000 0x4040_0000 0x4040_0000)
+    ∷ sent 1 20 calls_line
+    ∷ operate (declare (negsuc 0)) 1
+    ∷ operate (declare (pos 5000)) 1
+    ∷ operate (ask look) 1
+    ∷ sent 1 21 (line 2 0 100000 100000 0 0 3000 3000 0 0 0)
+    ∷ operate (ask look) 0
+    ∷ operate (ask look) 2
+    ∷ operate (ask target) 1
+    ∷ []
+
+-- at 107, with so many marks
+abbrev pub counted_to : (status runs : ℕ) → Outcome
+counted_to status runs = reported (point_record status 5 runs runs 7000 600000 0)
+
+abbrev pub calls_outcomes : List Outcome
+calls_outcomes =
+    reported blank
+    ∷ counted_to 1 1
+    ∷ refusal 21
+    ∷ refusal 9
+    ∷ refusal 9
+    ∷ refusal 9
+    ∷ refusal 9
+    ∷ refusal 8
+    ∷ refusal 8
+    ∷ refusal 22
+    ∷ counted_to 2 2
+    ∷ counted_to 2 3
+    ∷ look_shows 2 3 3 11 (pos 0) ByOperator
+    ∷ counted_to 2 4
+    ∷ reported (point_record 3 1 4 4 0 0 0)
+    ∷ refusal 36
+    ∷ reported (point_record 4 5 0 0 7000 600000 107000)
+    ∷ refusal 22
+    ∷ reasoned (ByLargeRun (record { first = 11; last = 17 }))
+    ∷ done
+    ∷ refusal 23
+    ∷ look_shows 0 0 0 0 (pos 0) ByOperator
+    ∷ counted_to 1 1
+    ∷ reported (point_record 1 3 1 1 7000 600000 0)
+    ∷ counted_to 2 2
+    ∷ refusal 11
+    ∷ done
+    ∷ look_shows 4 0 0 0 (pos 5000) ByOperator
+    ∷ reported (point_record 4 1 0 0 0 0 5000)
+    ∷ refusal 10
+    ∷ refusal 10
+    ∷ refusal 10
+    ∷ []
+
+pub record Examples : Type 0 where
+  pub program : Gives program_register program_calls 0 program_outcomes
+  pub individual_units : Gives individual_register individual_calls 0 individual_outcomes
+  pub cap_aggregate : Gives cap_register cap_calls 2 cap_outcomes
+  pub mixed_aggregate : Gives mixed_register mixed_calls 2 mixed_outcomes
+  pub target_aggregate : Gives target_register target_calls 2 target_outcomes
+  pub sides_of_units : Gives kinds_register kinds_calls 0 kinds_outcomes
+  pub sides_of_aggregate : Gives sides_register sides_calls 2 sides_outcomes
+  pub calls_and_refusals : Gives program_register calls_list 0 calls_outcomes
