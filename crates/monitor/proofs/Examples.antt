@@ -89,5 +89,6 @@ examples =
       target_aggregate = refl;
       sides_of_units = refl;
       sides_of_aggregate = refl;
+      levels = refl;
       calls_and_refusals = refl;
     }

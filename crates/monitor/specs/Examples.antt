@@ -1,4 +1,4 @@
--- Worked examples, in bytes: the run of 01's "The program", those of SO_OP_3705 (000, A.5), and three more for what they leave open. A register,
+-- Worked examples, in bytes: the run of 01's "The program", those of SO_OP_3705 (000, A.5), and four more for what they leave open. A register,
 -- the buffers sent after it and the reports are written as numbers at 01's places, and every value is worked out by hand from the papers: nothing
 -- here goes by the definitions of fields, lines, rates, triggers, marks and runs. In comments power is in MW, and rates are in MW per minute.
 use Rattle.std.specs.Prelude.{◌≡◌, true, List, [], ◌∷◌, ◌++◌, ℕ, ◌-◌, ◌*◌, ◌/◌, ◌%◌, ℤ, pos, negsuc, take, replicate, Result, Ok, Err}
@@ -33,13 +33,13 @@ unit_record kind next = kind ∷ next ∷ 0 ∷ 0 ∷ []
 abbrev pub head_record : (first : ℕ) → List ℕ
 head_record first = first ∷ 0 ∷ 0 ∷ 0 ∷ []
 
--- a line: quality, conformance mode, MWB, MWO, FCR, FCL, bid ramp up and down; and by their bits MW, SCADA ramp up and down
-abbrev pub line : (quality mode mwb mwo fcr fcl bid_up bid_down mw scada_up scada_down : ℕ) → List ℕ
-line quality mode mwb mwo fcr fcl bid_up bid_down mw scada_up scada_down =
-    quality ∷ mode ∷ 0 ∷ 0 ∷ words (mwb ∷ mwo ∷ fcr ∷ fcl ∷ bid_up ∷ bid_down ∷ mw ∷ scada_up ∷ scada_down ∷ [])
+-- a line: quality, conformance mode, cap flag, MWB, MWO, FCR, FCL, bid ramp up and down; and by their bits MW, SCADA ramp up and down
+abbrev pub line : (quality mode cap mwb mwo fcr fcl bid_up bid_down mw scada_up scada_down : ℕ) → List ℕ
+line quality mode cap mwb mwo fcr fcl bid_up bid_down mw scada_up scada_down =
+    quality ∷ mode ∷ cap ∷ 0 ∷ words (mwb ∷ mwo ∷ fcr ∷ fcl ∷ bid_up ∷ bid_down ∷ mw ∷ scada_up ∷ scada_down ∷ [])
 
 abbrev pub good_line : (mode mwb mwo fcr fcl bid_up bid_down mw scada_up scada_down : ℕ) → List ℕ
-good_line = line 0
+good_line mode = line 0 mode 0
 
 -- an interval's buffer: number, mode (0 manual, 1 automatic), zeros and the lines
 abbrev pub buffer : (number mode : ℕ) → List ℕ → List ℕ
@@ -234,46 +234,55 @@ target_outcomes =
 
 -- ---- what A.5 leaves open
 
--- A generating unit, a load and a bidirectional unit, each in no chain, with MWB 100, MWO 400, FCR 5 and FCL 2. Rates up are 4 by SCADA and 6 as
--- bid, so 4; down 7 and 5, so 5. At 124 MW down counts. Small: 12 and 10; 10 MW. Large: 20 and 20; 20 MW. For the load up is FCL: 124 - 102 is
--- 22, for the others FCR: 124 - 105 is 19. At 81 up counts. Small: 12 and 8; 8 MW. Large: 20 and 16; 16 MW. For the load down is FCR: 95 - 81 is
--- 14, for the others FCL: 98 - 81 is 17. On target the least of four rates counts: SCADA up 4; bid down 5; bid up 3
+-- A generating unit, a load, a bidirectional unit and a semi-scheduled one, each in no chain, with MWB 100, MWO 400, FCR 5 and FCL 2. Rates up are
+-- 4 by SCADA and 6 as bid, so 4; down 7 and 5, so 5. At 124 MW down counts. Small: 12 and 10; 10 MW. Large: 20 and 20; 20 MW. For the load up
+-- is FCL: 124 - 102 is 22, for the others FCR: 124 - 105 is 19. At 81 up counts. Small: 12 and 8; 8 MW. Large: 20 and 16; 16 MW. For the load
+-- down is FCR: 95 - 81 is 14, for the others FCL: 98 - 81 is 17. On target the least of four rates counts: SCADA up 4; bid down 5; bid up 3.
+-- Of the semi-scheduled unit the kept cap flag is 1 at 124 and at 81, where an error below is CLEAR, and then 0, so OFF
 abbrev pub kinds_register : List ℕ
-kinds_register = header 3 0 2 3 4 2 3 4 ++ (unit_record 1 0 ++ (unit_record 2 0 ++ unit_record 3 0))
+kinds_register = header 4 0 2 3 4 2 3 4 ++ (unit_record 1 0 ++ (unit_record 2 0 ++ (unit_record 3 0 ++ unit_record 4 0)))
 
-abbrev pub kinds_line : (mw bid_up bid_down scada_up scada_down : ℕ) → List ℕ
-kinds_line mw bid_up bid_down scada_up scada_down = good_line 0 100000 400000 5000 2000 bid_up bid_down mw scada_up scada_down
+abbrev pub kinds_line : (cap mw bid_up bid_down scada_up scada_down : ℕ) → List ℕ
+kinds_line cap mw bid_up bid_down scada_up scada_down = line 0 0 cap 100000 400000 5000 2000 bid_up bid_down mw scada_up scada_down
 
-abbrev pub kinds_lines : (mw : ℕ) → List ℕ
-kinds_lines mw =
-    let each = kinds_line mw 6000 5000 0x4080_0000 0x40E0_0000 in
-    each ++ (each ++ each)
+abbrev pub kinds_lines : (cap mw : ℕ) → List ℕ
+kinds_lines cap mw =
+    let of_cap : ℕ → List ℕ = λ flag. kinds_line flag mw 6000 5000 0x4080_0000 0x40E0_0000 in
+    of_cap 0 ++ (of_cap 0 ++ (of_cap 0 ++ of_cap cap))
 
 abbrev pub kinds_lines_on_target : List ℕ
 kinds_lines_on_target =
-    kinds_line 0x42C8_0000 6000 5000 0x4080_0000 0x40E0_0000
-    ++ (kinds_line 0x42C8_0000 6000 5000 0x40E0_0000 0x40C0_0000
-    ++ kinds_line 0x42C8_0000 3000 6000 0x4080_0000 0x40E0_0000)
+    kinds_line 0 0x42C8_0000 6000 5000 0x4080_0000 0x40E0_0000
+    ++ (kinds_line 0 0x42C8_0000 6000 5000 0x40E0_0000 0x40C0_0000
+    ++ (kinds_line 0 0x42C8_0000 3000 6000 0x4080_0000 0x40E0_0000
+    ++ kinds_line 1 0x42C8_0000 6000 5000 0x4080_0000 0x40E0_0000))
 
 abbrev pub kinds_calls : List Call
 kinds_calls =
-    sent 3 1 (kinds_lines 0x42F8_0000)
-    ∷ sent 3 2 (kinds_lines 0x42F8_0000)
-    ∷ sent 3 3 (kinds_lines 0x42A2_0000)
-    ∷ sent 3 4 kinds_lines_on_target
+    sent 4 1 (kinds_lines 1 0x42F8_0000)
+    ∷ sent 4 2 (kinds_lines 1 0x42F8_0000)
+    ∷ sent 4 3 (kinds_lines 0 0x42A2_0000)
+    ∷ sent 4 4 kinds_lines_on_target
     ∷ []
 
 abbrev pub kinds_outcomes : List Outcome
 kinds_outcomes =
-    reported (blank ++ (blank ++ blank))
+    reported (blank ++ (blank ++ (blank ++ blank)))
     ∷ reported
-    (point_record 1 4 1 0 19000 1000000 0 ++ (point_record 1 5 1 1 22000 1000000 0 ++ point_record 1 4 1 0 19000 1000000 0))
+    (point_record 1 4 1 0 19000 1000000 0
+    ++ (point_record 1 5 1 1 22000 1000000 0
+    ++ (point_record 1 4 1 0 19000 1000000 0
+    ++ point_record 1 4 1 0 19000 1000000 0)))
     ∷ reported
     (point_record 2 5 2 1 (minus 17000) 800000 0
     ++ (point_record 2 4 2 0 (minus 14000) 800000 0
-    ++ point_record 2 5 2 1 (minus 17000) 800000 0))
+    ++ (point_record 2 5 2 1 (minus 17000) 800000 0
+    ++ point_record 0 2 0 0 (minus 17000) 800000 0)))
     ∷ reported
-    (point_record 0 2 0 0 0 800000 0 ++ (point_record 0 2 0 0 0 1000000 0 ++ point_record 0 2 0 0 0 600000 0))
+    (point_record 0 2 0 0 0 800000 0
+    ++ (point_record 0 2 0 0 0 1000000 0
+    ++ (point_record 0 2 0 0 0 600000 0
+    ++ off)))
     ∷ []
 
 -- An aggregate whose sums differ on both sides: 300 MW with rates 1 up and 5 down, FCR 4 and FCL 1, and a load, 100 MW with 2 up and 4 down,
@@ -303,6 +312,38 @@ sides_outcomes =
     ∷ reported (off ++ (off ++ point_record 1 5 1 1 (minus 15500) 800000 0))
     ∷ targeted (record { target = pos 150000; raise = 6000; lower = 4000; complete = true })
     ∷ reported (off ++ (off ++ point_record 2 4 2 0 9500 900000 0))
+    ∷ []
+
+-- A generating unit, a load and a bidirectional unit in one chain, each in conformance mode 2, with MWB 10, MWO 100 and rates of 3, at -20, -15
+-- and -20: -20 - 10 is -30, and -15 - 10 is -25. The sums are 10 and -20 + 15 - 20, so -35; 3% of 200 is 6. All are LARGE four times. The level
+-- "becomes the greater of MW and 0" for the first two; "Bidirectional units and aggregates keep the signed value"
+abbrev pub levels_register : List ℕ
+levels_register = header 3 1 2 3 4 2 3 4 ++ (unit_record 1 2 ++ (unit_record 2 3 ++ (unit_record 3 0 ++ head_record 1)))
+
+abbrev pub levels_line : (mw : ℕ) → List ℕ
+levels_line mw = good_line 2 10000 100000 0 0 3000 3000 mw 0x4040_0000 0x4040_0000
+
+abbrev pub levels_interval : ℕ → Call
+levels_interval number = sent 4 number (levels_line 0xC1A0_0000 ++ (levels_line 0xC170_0000 ++ levels_line 0xC1A0_0000))
+
+abbrev pub levels_calls : List Call
+levels_calls = levels_interval 1 ∷ levels_interval 2 ∷ levels_interval 3 ∷ levels_interval 4 ∷ levels_interval 5 ∷ []
+
+abbrev pub levels_records : (status runs bidirectional aggregate : ℕ) → Outcome
+levels_records status runs bidirectional aggregate =
+    reported
+    (point_record status 5 runs runs (minus 30000) 600000 0
+    ++ (point_record status 5 runs runs (minus 25000) 600000 0
+    ++ (point_record status 5 runs runs (minus 30000) 600000 bidirectional
+    ++ point_record status 5 runs runs (minus 35000) 600000 aggregate)))
+
+abbrev pub levels_outcomes : List Outcome
+levels_outcomes =
+    reported (blank ++ (blank ++ (blank ++ blank)))
+    ∷ levels_records 1 1 0 0
+    ∷ levels_records 2 2 0 0
+    ∷ levels_records 3 3 0 0
+    ∷ levels_records 4 0 (minus 20000) (minus 25000)
     ∷ []
 
 -- The unit of "The program", at 107 again and again: modes, refusals, a jump in numbers and operator calls. Refused are an interval that is not
@@ -343,12 +384,12 @@ calls_list =
     ∷ operate reinstate 1
     ∷ operate (ask look) 1
     ∷ sent 1 18 calls_line
-    ∷ sent 1 19 (line 1 0 100000 100000 0 0 3000 3000 0x42D6_0000 0x4040_0000 0x4040_0000)
+    ∷ sent 1 19 (line 1 0 0 100000 100000 0 0 3000 3000 0x42D6_0000 0x4040_0000 0x4040_0000)
     ∷ sent 1 20 calls_line
     ∷ operate (declare (negsuc 0)) 1
     ∷ operate (declare (pos 5000)) 1
     ∷ operate (ask look) 1
-    ∷ sent 1 21 (line 2 0 100000 100000 0 0 3000 3000 0 0 0)
+    ∷ sent 1 21 (line 2 0 0 100000 100000 0 0 3000 3000 0 0 0)
     ∷ operate (ask look) 0
     ∷ operate (ask look) 2
     ∷ operate (ask target) 1
@@ -402,4 +443,5 @@ pub record Examples : Type 0 where
   pub target_aggregate : Gives target_register target_calls 2 target_outcomes
   pub sides_of_units : Gives kinds_register kinds_calls 0 kinds_outcomes
   pub sides_of_aggregate : Gives sides_register sides_calls 2 sides_outcomes
+  pub levels : Gives levels_register levels_calls 3 levels_outcomes
   pub calls_and_refusals : Gives program_register calls_list 0 calls_outcomes
