@@ -235,10 +235,10 @@ target_outcomes =
 -- ---- what A.5 leaves open
 
 -- A generating unit, a load, a bidirectional unit and a semi-scheduled one, each in no chain, with MWB 100, MWO 400, FCR 5 and FCL 2. Rates up are
--- 4 by SCADA and 6 as bid, so 4; down 7 and 5, so 5. At 124 MW down counts. Small: 12 and 10; 10 MW. Large: 20 and 20; 20 MW. For the load up
--- is FCL: 124 - 102 is 22, for the others FCR: 124 - 105 is 19. At 81 up counts. Small: 12 and 8; 8 MW. Large: 20 and 16; 16 MW. For the load
--- down is FCR: 95 - 81 is 14, for the others FCL: 98 - 81 is 17. On target the least of four rates counts: SCADA up 4; bid down 5; bid up 3.
--- Of the semi-scheduled unit the kept cap flag is 1 at 124 and at 81, where an error below is CLEAR, and then 0, so OFF
+-- 4 by SCADA and 6 as bid, so 4; down 7 and 5, so 5. At 125 MW down counts. Small: 12 and 10; 10 MW. Large: 20 and 20; 20 MW. For the load up
+-- is FCL: 125 - 102 is 23, for the others FCR: 125 - 105 is 20, which is not greater. At 87 up counts. Small: 12 and 8; 8 MW. Large: 20 and 16.
+-- For the load down is FCR: 95 - 87 is 8, which is not greater, for the others FCL: 98 - 87 is 11. On target the least of four rates counts: SCADA
+-- up 4; bid down 5; bid up 3. Of the semi-scheduled unit the kept cap flag is 1 at 125 and at 87, where an error below is CLEAR, and then 0: OFF
 abbrev pub kinds_register : List ℕ
 kinds_register = header 4 0 2 3 4 2 3 4 ++ (unit_record 1 0 ++ (unit_record 2 0 ++ (unit_record 3 0 ++ unit_record 4 0)))
 
@@ -259,9 +259,9 @@ kinds_lines_on_target =
 
 abbrev pub kinds_calls : List Call
 kinds_calls =
-    sent 4 1 (kinds_lines 1 0x42F8_0000)
-    ∷ sent 4 2 (kinds_lines 1 0x42F8_0000)
-    ∷ sent 4 3 (kinds_lines 0 0x42A2_0000)
+    sent 4 1 (kinds_lines 1 0x42FA_0000)
+    ∷ sent 4 2 (kinds_lines 1 0x42FA_0000)
+    ∷ sent 4 3 (kinds_lines 0 0x42AE_0000)
     ∷ sent 4 4 kinds_lines_on_target
     ∷ []
 
@@ -269,15 +269,15 @@ abbrev pub kinds_outcomes : List Outcome
 kinds_outcomes =
     reported (blank ++ (blank ++ (blank ++ blank)))
     ∷ reported
-    (point_record 1 4 1 0 19000 1000000 0
-    ++ (point_record 1 5 1 1 22000 1000000 0
-    ++ (point_record 1 4 1 0 19000 1000000 0
-    ++ point_record 1 4 1 0 19000 1000000 0)))
+    (point_record 1 4 1 0 20000 1000000 0
+    ++ (point_record 1 5 1 1 23000 1000000 0
+    ++ (point_record 1 4 1 0 20000 1000000 0
+    ++ point_record 1 4 1 0 20000 1000000 0)))
     ∷ reported
-    (point_record 2 5 2 1 (minus 17000) 800000 0
-    ++ (point_record 2 4 2 0 (minus 14000) 800000 0
-    ++ (point_record 2 5 2 1 (minus 17000) 800000 0
-    ++ point_record 0 2 0 0 (minus 17000) 800000 0)))
+    (point_record 2 4 2 0 (minus 11000) 800000 0
+    ++ (point_record 0 2 0 0 (minus 8000) 800000 0
+    ++ (point_record 2 4 2 0 (minus 11000) 800000 0
+    ++ point_record 0 2 0 0 (minus 11000) 800000 0)))
     ∷ reported
     (point_record 0 2 0 0 0 800000 0
     ++ (point_record 0 2 0 0 0 1000000 0
