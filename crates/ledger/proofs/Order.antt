@@ -5,6 +5,8 @@ use mathlib.Core.Logic.{◌↔◌, ◌⊎◌, inl, inr}
 use Rattle.std.specs.Prelude.{Some, None}
 use mathlib.Core.Bool.{Bool, true, false, not}
 use mathlib.Core.List.{List, [], ◌∷◌, ◌++◌, nil≢cons, head-eq_of_cons-eq, tail-eq_of_cons-eq}
+use Prim.Native.Nat.{◌<◌}
+use native.Mathlib.Omega.{arith}
 use borrow.Author.Tests.{leb-false, lt-leb}
 use Rattle.trace.specs.Refusals.{first_of}
 use Rattle.trace.proofs.Lists.{holds_after}
@@ -51,7 +53,8 @@ module _ (date : Date) (d : is_date date ≡ true) where
   later-than : (latest : Latest) → IsDate latest → not_later date latest ≡ false → Later date latest
   later-than None is e = tt
   later-than (Some last) is e =
-      less-earlier last date (date-dated last is) (date-dated date d) (leb-false (ordinal_of date) (ordinal_of last) e)
+      let l : ordinal_of last < ordinal_of date = omega (arith, leb-false) in
+      less-earlier last date (date-dated last is) (date-dated date d) l
 
   not-later : (latest : Latest) → IsDate latest → Later date latest → not_later date latest ≡ false
   not-later None is l = refl

@@ -108,18 +108,18 @@ module _ (earlier : ℕ) (records : List ℕ) where
   under-same : (i : ℕ) → is_under (flag_at earlier records i) ≡ under_at earlier records i
   unfolding interval_flag error_flag error_of interval_at
   under-same i =
-      let v = interval_at records i in
-      rw (← before i)
-      (under-by (eqb v.target 0) (eqb (target_before earlier records i) 0)
-      (le_z (pos 6000000) (error_of v)) (le_z (error_of v) (neg_ℤ (pos 6000000))))
+      let error = error_of (interval_at records i) in
+      let under = le_z (pos 6000000) error in
+      let over = le_z error (neg_ℤ (pos 6000000)) in
+      rw (← before i) (under-by (eqb (interval_at records i).target 0) (eqb (target_before earlier records i) 0) under over)
 
   over-same : (i : ℕ) → is_over (flag_at earlier records i) ≡ over_at earlier records i
   unfolding interval_flag error_flag error_of interval_at
   over-same i =
-      let v = interval_at records i in
-      rw (← before i)
-      (over-by (eqb v.target 0) (eqb (target_before earlier records i) 0)
-      (le_z (pos 6000000) (error_of v)) (le_z (error_of v) (neg_ℤ (pos 6000000))) (apart (error_of v)))
+      let error = error_of (interval_at records i) in
+      let under = le_z (pos 6000000) error in
+      let over = le_z error (neg_ℤ (pos 6000000)) in
+      rw (← before i) (over-by (eqb (interval_at records i).target 0) (eqb (target_before earlier records i) 0) under over (apart error))
 
   pub day-values : Values earlier records (day_of earlier records)
   unfolding day_of interval_at
