@@ -1,14 +1,15 @@
 -- What is kept with the aggregates of a plant (02, 2026-07), in any one state.
-use Rattle.std.specs.Prelude.{◌≡◌, ◌↔◌, true, List, map, ℕ, suc, ◌+◌, ◌<◌, is_some}
-use Rattle.aggregates.specs.Aggregates.{no_sums, add_members, aggregate_basis}
+use Rattle.std.specs.Prelude.{◌≡◌, ◌↔◌, true, List, map, ℕ, suc, ◌+◌, ◌*◌, ◌<◌, get_or, None, is_some}
+use Rattle.wire.specs.Fields.{word_at, whole_at}
+use Rattle.aggregates.specs.Aggregates.{is_load, no_sums, add_members, aggregate_basis}
 use Rattle.targets.specs.Targets.{target_of}
-use Rattle.targets.specs.Compared.{Compares}
+use Rattle.targets.specs.Compared.{Compares, SumsOver}
 use Rattle.plants.specs.Plants.{Plant, elem}
 use Rattle.intervals.specs.Assessments.{line_at, sight_at}
 use Rattle.intervals.specs.Monitors.{kept_at, target_at}
 use Rattle.intervals.specs.declared.Monitor.{Monitor}
 use Rattle.operators.specs.Operators.{ask, target}
-use Rattle.monitor.specs.Calls.{operate, targeted, answer}
+use Rattle.monitor.specs.Calls.{interval, operate, reported, targeted, next, answer}
 
 -- aggregate j, counted from 0, has the point n + j + 1
 abbrev pub point_of : Plant → ℕ → ℕ
@@ -28,3 +29,14 @@ pub record OwnTargets (plant : Plant) (m : Monitor) : Type 0 where
   pub compared : (j : ℕ) → j < plant.aggregates → (buffer : List ℕ)
       → ((u : ℕ) → elem u (plant.members j) ≡ true → is_some (line_at plant buffer u) ≡ true)
       → Compares (aggregate_basis (add_members no_sums (map (sight_at plant buffer true (kept_at m)) (plant.members j)))) (target_at m j)
+  -- And once more by bytes. After an accepted interval in which every member's line is readable the stored sums are those of the lines'
+  -- "4 MWB", "loads subtracted", and "12 FCR and 16 FCL", and the flag is true
+  pub sent : (buffer report told : List ℕ) → answer m (interval buffer report) ≡ reported told
+      → (j : ℕ) → j < plant.aggregates
+      → ((u : ℕ) → elem u (plant.members j) ≡ true → is_some (line_at plant buffer u) ≡ true)
+      → SumsOver (λ u. is_load (get_or plant.kinds u None))
+      (λ u. whole_at buffer (8 + 40 * u + 4))
+      (λ u. word_at buffer (8 + 40 * u + 12))
+      (λ u. word_at buffer (8 + 40 * u + 16))
+      (plant.members j)
+      (target_at (next m (interval buffer report)) j)

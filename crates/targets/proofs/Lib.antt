@@ -2,3 +2,4 @@
 pub mod Walks
 pub mod Lines
 pub mod Compared
+pub mod Sums
