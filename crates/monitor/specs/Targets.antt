@@ -23,14 +23,14 @@ pub record OwnTargets (plant : Plant) (m : Monitor) : Type 0 where
       → ((target_at m j).complete ≡ true) ↔ ((u : ℕ) → elem u (plant.members j) ≡ true → is_some (kept_at m u) ≡ true)
   -- "A new call on the aggregate's point returns them"
   pub told : (j : ℕ) → j < plant.aggregates → answer m (operate (ask target) (point_of plant j)) ≡ targeted (target_at m j)
-  -- Said once more without `target_of`, by what an interval compares with. Where the kept lines count and every member's line of the buffer
-  -- is readable, the stored sums are the MWB, up and down of the aggregate's error, so where the flag is true: a member of which nothing is
-  -- kept adds to neither, and the mark is BLANK
+  -- The same without `target_of`, by what the next interval compares with: where the kept lines count and every member's line of the buffer is
+  -- readable, the target, up and down of the aggregate's error are the stored sums. It is so too where a member has nothing kept, which adds
+  -- to neither, though the mark is BLANK then
   pub compared : (j : ℕ) → j < plant.aggregates → (buffer : List ℕ)
       → ((u : ℕ) → elem u (plant.members j) ≡ true → is_some (line_at plant buffer u) ≡ true)
       → Compares (aggregate_basis (add_members no_sums (map (sight_at plant buffer true (kept_at m)) (plant.members j)))) (target_at m j)
-  -- And once more by bytes. After an accepted interval in which every member's line is readable the stored sums are those of the lines'
-  -- "4 MWB", "loads subtracted", and "12 FCR and 16 FCL", and the flag is true
+  -- The same by bytes: after an accepted interval in which every member's line is readable the stored sums are those of "4 MWB", "loads
+  -- subtracted", and of "12 FCR and 16 FCL" in the members' lines, and the flag is true
   pub sent : (buffer report told : List ℕ) → answer m (interval buffer report) ≡ reported told
       → (j : ℕ) → j < plant.aggregates
       → ((u : ℕ) → elem u (plant.members j) ≡ true → is_some (line_at plant buffer u) ≡ true)
