@@ -238,30 +238,31 @@ target_outcomes =
 -- 4 by SCADA and 6 as bid, so 4; down 7 and 5, so 5. At 125 MW down counts. Small: 12 and 10; 10 MW. Large: 20 and 20; 20 MW. For the load up
 -- is FCL: 125 - 102 is 23, for the others FCR: 125 - 105 is 20, which is not greater. At 87 up counts. Small: 12 and 8; 8 MW. Large: 20 and 16.
 -- For the load down is FCR: 95 - 87 is 8, which is not greater, for the others FCL: 98 - 87 is 11. On target the least of four rates counts: SCADA
--- up 4; bid down 5; bid up 3. Of the semi-scheduled unit the kept cap flag is 1 at 125 and at 87, where an error below is CLEAR, and then 0: OFF
+-- up 4; bid down 5; bid up 3. Of the semi-scheduled unit the kept cap flag is 1 at 125 and at 87, where an error below is CLEAR, and then 0: OFF.
+-- At 87 MWB is 103, which is compared with in the interval after it: 101 - 100 is 1 for the others, and for the load 100 lies between 98 and 105
 abbrev pub kinds_register : List ℕ
 kinds_register = header 4 0 2 3 4 2 3 4 ++ (unit_record 1 0 ++ (unit_record 2 0 ++ (unit_record 3 0 ++ unit_record 4 0)))
 
-abbrev pub kinds_line : (cap mw bid_up bid_down scada_up scada_down : ℕ) → List ℕ
-kinds_line cap mw bid_up bid_down scada_up scada_down = line 0 0 cap 100000 400000 5000 2000 bid_up bid_down mw scada_up scada_down
+abbrev pub kinds_line : (cap mwb mw bid_up bid_down scada_up scada_down : ℕ) → List ℕ
+kinds_line cap mwb mw bid_up bid_down scada_up scada_down = line 0 0 cap mwb 400000 5000 2000 bid_up bid_down mw scada_up scada_down
 
-abbrev pub kinds_lines : (cap mw : ℕ) → List ℕ
-kinds_lines cap mw =
-    let of_cap : ℕ → List ℕ = λ flag. kinds_line flag mw 6000 5000 0x4080_0000 0x40E0_0000 in
+abbrev pub kinds_lines : (cap mwb mw : ℕ) → List ℕ
+kinds_lines cap mwb mw =
+    let of_cap : ℕ → List ℕ = λ flag. kinds_line flag mwb mw 6000 5000 0x4080_0000 0x40E0_0000 in
     of_cap 0 ++ (of_cap 0 ++ (of_cap 0 ++ of_cap cap))
 
 abbrev pub kinds_lines_on_target : List ℕ
 kinds_lines_on_target =
-    kinds_line 0 0x42C8_0000 6000 5000 0x4080_0000 0x40E0_0000
-    ++ (kinds_line 0 0x42C8_0000 6000 5000 0x40E0_0000 0x40C0_0000
-    ++ (kinds_line 0 0x42C8_0000 3000 6000 0x4080_0000 0x40E0_0000
-    ++ kinds_line 1 0x42C8_0000 6000 5000 0x4080_0000 0x40E0_0000))
+    kinds_line 0 100000 0x42C8_0000 6000 5000 0x4080_0000 0x40E0_0000
+    ++ (kinds_line 0 100000 0x42C8_0000 6000 5000 0x40E0_0000 0x40C0_0000
+    ++ (kinds_line 0 100000 0x42C8_0000 3000 6000 0x4080_0000 0x40E0_0000
+    ++ kinds_line 1 100000 0x42C8_0000 6000 5000 0x4080_0000 0x40E0_0000))
 
 abbrev pub kinds_calls : List Call
 kinds_calls =
-    sent 4 1 (kinds_lines 1 0x42FA_0000)
-    ∷ sent 4 2 (kinds_lines 1 0x42FA_0000)
-    ∷ sent 4 3 (kinds_lines 0 0x42AE_0000)
+    sent 4 1 (kinds_lines 1 100000 0x42FA_0000)
+    ∷ sent 4 2 (kinds_lines 1 100000 0x42FA_0000)
+    ∷ sent 4 3 (kinds_lines 0 103000 0x42AE_0000)
     ∷ sent 4 4 kinds_lines_on_target
     ∷ []
 
@@ -279,31 +280,31 @@ kinds_outcomes =
     ++ (point_record 2 4 2 0 (minus 11000) 800000 0
     ++ point_record 0 2 0 0 (minus 11000) 800000 0)))
     ∷ reported
-    (point_record 0 2 0 0 0 800000 0
+    (point_record 0 2 0 0 (minus 1000) 800000 0
     ++ (point_record 0 2 0 0 0 1000000 0
-    ++ (point_record 0 2 0 0 0 600000 0
+    ++ (point_record 0 2 0 0 (minus 1000) 600000 0
     ++ off)))
     ∷ []
 
--- An aggregate whose sums differ on both sides: 300 MW with rates 1 up and 5 down, FCR 4 and FCL 1, and a load, 100 MW with 2 up and 4 down,
--- FCR 2 and FCL 3, conformance mode 0. Kept MWB 200 - 50, then others and no regulation; MW 190.5 - 60, then 225.5 - 60.
--- Under the target: 1 up against the load's 4 down, so 4, and 300 against 100. Small: 9 and 8; 8 MW. Large: 15 and 16; 15 MW. Down is 1 + 3:
--- 130.5 is 15.5 under 146. Over it: 5 down against the load's 2 up. Small: 9 and 10; 9 MW. Large: 15 and 20. Up is 4 + 2: 165.5 is 9.5 over 156.
--- Its own target is 200 - 50, with 4 + 2 and 1 + 3
+-- An aggregate whose sums differ on both sides: a generating unit with rates 1 up and 5 down, and a load with 2 up and 4 down, in conformance
+-- mode 0. Kept MWB 200 - 50, FCR 4 + 2 and FCL 1 + 3, then others and no regulation; MW 190.5 - 60, then 225.5 - 60. MWO 300 against 100, then
+-- 100 against 300. Under the target: 1 up against the load's 4 down. Small: 9 and 8; 8 MW. Large: 15 and 16; 15 MW. Down is 1 + 3: 130.5 is 15.5
+-- under 146. Over it: 5 down against the load's 2 up. Small: 9 and 10; 9 MW. Large: 15 and 20. Up is 4 + 2: 165.5 is 9.5 over 156.
+-- Its own target between the two is 200 - 50, with 4 + 2 and 1 + 3
 abbrev pub sides_register : List ℕ
 sides_register = header 2 1 2 3 4 2 3 4 ++ (unit_record 1 2 ++ (unit_record 2 0 ++ head_record 1))
 
-abbrev pub sides_lines : (mwb fcr fcl mw load_fcr load_fcl : ℕ) → List ℕ
-sides_lines mwb fcr fcl mw load_fcr load_fcl =
-    good_line 1 mwb 300000 fcr fcl 1000 5000 mw 0x3F80_0000 0x40A0_0000
-    ++ good_line 0 50000 100000 load_fcr load_fcl 2000 4000 0x4270_0000 0x4000_0000 0x4080_0000
+abbrev pub sides_lines : (mwb mwo fcr fcl mw load_mwo load_fcr load_fcl : ℕ) → List ℕ
+sides_lines mwb mwo fcr fcl mw load_mwo load_fcr load_fcl =
+    good_line 1 mwb mwo fcr fcl 1000 5000 mw 0x3F80_0000 0x40A0_0000
+    ++ good_line 0 50000 load_mwo load_fcr load_fcl 2000 4000 0x4270_0000 0x4000_0000 0x4080_0000
 
 abbrev pub sides_calls : List Call
 sides_calls =
-    sent 3 1 (sides_lines 200000 4000 1000 0x433E_8000 2000 3000)
-    ∷ sent 3 2 (sides_lines 200000 4000 1000 0x433E_8000 2000 3000)
+    sent 3 1 (sides_lines 200000 300000 4000 1000 0x433E_8000 100000 2000 3000)
+    ∷ sent 3 2 (sides_lines 200000 300000 4000 1000 0x433E_8000 100000 2000 3000)
     ∷ operate (ask target) 3
-    ∷ sent 3 3 (sides_lines 160000 0 0 0x4361_8000 0 0)
+    ∷ sent 3 3 (sides_lines 160000 100000 0 0 0x4361_8000 300000 0 0)
     ∷ []
 
 abbrev pub sides_outcomes : List Outcome
