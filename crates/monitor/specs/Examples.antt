@@ -239,24 +239,24 @@ target_outcomes =
 -- is FCL: 125 - 102 is 23, for the others FCR: 125 - 105 is 20, which is not greater. At 87 up counts. Small: 12 and 8; 8 MW. Large: 20 and 16.
 -- For the load down is FCR: 95 - 87 is 8, which is not greater, for the others FCL: 98 - 87 is 11. On target the least of four rates counts: SCADA
 -- up 4; bid down 5; bid up 3. Of the semi-scheduled unit the kept cap flag is 1 at 125 and at 87, where an error below is CLEAR, and then 0: OFF.
--- At 87 MWB is 103, which is compared with in the interval after it: 101 - 100 is 1 for the others, and for the load 100 lies between 98 and 105
+-- At 87 MWB is 103, which is compared with on target, where FCR and FCL are 0: 101 - 100 is 1, and for the load 100 lies between 98 and 105
 abbrev pub kinds_register : List ℕ
 kinds_register = header 4 0 2 3 4 2 3 4 ++ (unit_record 1 0 ++ (unit_record 2 0 ++ (unit_record 3 0 ++ unit_record 4 0)))
 
-abbrev pub kinds_line : (cap mwb mw bid_up bid_down scada_up scada_down : ℕ) → List ℕ
-kinds_line cap mwb mw bid_up bid_down scada_up scada_down = line 0 0 cap mwb 400000 5000 2000 bid_up bid_down mw scada_up scada_down
+abbrev pub kinds_line : (cap mwb fcr fcl mw bid_up bid_down scada_up scada_down : ℕ) → List ℕ
+kinds_line cap mwb fcr fcl mw bid_up bid_down scada_up scada_down = line 0 0 cap mwb 400000 fcr fcl bid_up bid_down mw scada_up scada_down
 
 abbrev pub kinds_lines : (cap mwb mw : ℕ) → List ℕ
 kinds_lines cap mwb mw =
-    let of_cap : ℕ → List ℕ = λ flag. kinds_line flag mwb mw 6000 5000 0x4080_0000 0x40E0_0000 in
+    let of_cap : ℕ → List ℕ = λ flag. kinds_line flag mwb 5000 2000 mw 6000 5000 0x4080_0000 0x40E0_0000 in
     of_cap 0 ++ (of_cap 0 ++ (of_cap 0 ++ of_cap cap))
 
 abbrev pub kinds_lines_on_target : List ℕ
 kinds_lines_on_target =
-    kinds_line 0 100000 0x42C8_0000 6000 5000 0x4080_0000 0x40E0_0000
-    ++ (kinds_line 0 100000 0x42C8_0000 6000 5000 0x40E0_0000 0x40C0_0000
-    ++ (kinds_line 0 100000 0x42C8_0000 3000 6000 0x4080_0000 0x40E0_0000
-    ++ kinds_line 1 100000 0x42C8_0000 6000 5000 0x4080_0000 0x40E0_0000))
+    kinds_line 0 100000 0 0 0x42C8_0000 6000 5000 0x4080_0000 0x40E0_0000
+    ++ (kinds_line 0 100000 0 0 0x42C8_0000 6000 5000 0x40E0_0000 0x40C0_0000
+    ++ (kinds_line 0 100000 0 0 0x42C8_0000 3000 6000 0x4080_0000 0x40E0_0000
+    ++ kinds_line 1 100000 0 0 0x42C8_0000 6000 5000 0x4080_0000 0x40E0_0000))
 
 abbrev pub kinds_calls : List Call
 kinds_calls =
@@ -349,7 +349,9 @@ levels_outcomes =
 
 -- The unit of "The program", at 107 again and again: modes, refusals, a jump in numbers and operator calls. Refused are an interval that is not
 -- above the last, a mode above 1, each spare byte, a line or a report that is a byte short, and with them nothing changes. "Manual mode shows 2
--- instead of 3", and declares nothing. A jump leaves the mark BLANK and the runs. At a mark in automatic mode it is declared, at its MW
+-- instead of 3", and declares nothing. A jump leaves the mark BLANK and the runs. At a mark in automatic mode it is declared, at its MW. A
+-- substituted value past its trigger is DOUBT, a bad one BLANK, and so is an unreadable line (a cap flag of kind 1) and the line after it. A level
+-- below 0 is refused
 abbrev pub calls_line : List ℕ
 calls_line = program_line 0x42D6_0000
 
@@ -391,6 +393,9 @@ calls_list =
     ∷ operate (declare (pos 5000)) 1
     ∷ operate (ask look) 1
     ∷ sent 1 21 (line 2 0 0 100000 100000 0 0 3000 3000 0 0 0)
+    ∷ sent 1 22 (line 0 0 1 100000 100000 0 0 3000 3000 0x42D6_0000 0x4040_0000 0x4040_0000)
+    ∷ sent 1 23 calls_line
+    ∷ sent 1 24 calls_line
     ∷ operate (ask look) 0
     ∷ operate (ask look) 2
     ∷ operate (ask target) 1
@@ -431,6 +436,9 @@ calls_outcomes =
     ∷ done
     ∷ look_shows 4 0 0 0 (pos 5000) ByOperator
     ∷ reported (point_record 4 1 0 0 0 0 5000)
+    ∷ reported (point_record 4 1 0 0 0 0 5000)
+    ∷ reported (point_record 4 1 0 0 0 0 5000)
+    ∷ reported (point_record 4 5 0 0 7000 600000 5000)
     ∷ refusal 10
     ∷ refusal 10
     ∷ refusal 10
