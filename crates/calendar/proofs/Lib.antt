@@ -2,5 +2,6 @@
 pub mod Months
 pub mod Years
 pub mod Places
+pub mod Later
 pub mod Finds
 pub mod Order

@@ -1,6 +1,6 @@
 -- The days of the years from 2000 on, every fourth of them a leap year up to 2100, by one test over all of them. Assumes nothing.
 use mathlib.Core.Path.{◌≡◌, refl}
-use mathlib.Core.Bool.{Bool, true, ◌&&◌}
+use mathlib.Core.Bool.{Bool, true, false, ◌&&◌}
 use Prim.Native.Nat.{ℕ, ◌+◌, ◌*◌, ◌≤◌}
 use native.Mathlib.Omega.{arith}
 use borrow.Author.Tests.{eqb-true}
@@ -28,3 +28,8 @@ module _ (years : ℕ) (l : years ≤ 100) where
 
   pub years-value : quick years ≡ days_of_years years
   years-value = eqb-true (quick years) (days_of_years years) (and_l (eqb (quick years) (days_of_years years)) (leb (quick years) 36525) holds)
+
+-- 2100, in which a date three months after one of 2099 may lie, is a common year
+pub common-2100 : is_leap 2100 ≡ false
+unfolding is_leap
+common-2100 = refl

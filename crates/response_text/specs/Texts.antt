@@ -1,5 +1,5 @@
--- What the program of a day prints: `D T FLAG UNDER OVER`, where FLAG is `none`, `under` or `over`; or `refused N`. The day has no format
--- in 02: this is ours.
+-- What the program of a day prints: `D T FLAG UNDER OVER`, where FLAG is `none`, `under` or `over`; or `refused N`. 02 gives no format:
+-- this is ours.
 use Rattle.std.specs.Prelude.{List, ℕ, Option, Some, None, Result, Ok, Err}
 use Rattle.text.specs.Numbers.{ascii}
 use Rattle.text.specs.Lines.{day_line_of, refused_of}
