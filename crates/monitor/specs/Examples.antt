@@ -33,6 +33,9 @@ unit_record kind next = kind ∷ next ∷ 0 ∷ 0 ∷ []
 abbrev pub head_record : (first : ℕ) → List ℕ
 head_record first = first ∷ 0 ∷ 0 ∷ 0 ∷ []
 
+-- Floats stand by their bits: 1 to 7 are 3F80_0000, 4000_0000, 4040_0000, 4080_0000, 40A0_0000, 40C0_0000 and 40E0_0000; 50 is 4248_0000, 60 is
+-- 4270_0000 and 100 is 42C8_0000; the others are the MW of the comments, in their order.
+
 -- a line: quality, conformance mode, cap flag, MWB, MWO, FCR, FCL, bid ramp up and down; and by their bits MW, SCADA ramp up and down
 abbrev pub line : (quality mode cap mwb mwo fcr fcl bid_up bid_down mw scada_up scada_down : ℕ) → List ℕ
 line quality mode cap mwb mwo fcr fcl bid_up bid_down mw scada_up scada_down =
@@ -78,8 +81,21 @@ abbrev pub outcomes_by : Result Loaded RegisterRefusal → List Call → Result 
 outcomes_by (Ok l) calls = Ok (l.visits, run l.monitor calls)
 outcomes_by (Err k) calls = Err k
 
-abbrev pub Gives : (register : List ℕ) → List Call → (visits : ℕ) → List Outcome → Type 0
-Gives register calls visits outcomes = outcomes_by (load_of register) calls ≡ Ok (visits, outcomes)
+-- a call, and what comes of it
+abbrev pub Row : Type 0
+Row = Call × Outcome
+
+abbrev pub calls_in : List Row → List Call
+calls_in [] = []
+calls_in (row ∷ rest) = row.0 ∷ calls_in rest
+
+abbrev pub outcomes_in : List Row → List Outcome
+outcomes_in [] = []
+outcomes_in (row ∷ rest) = row.1 ∷ outcomes_in rest
+
+-- the register is accepted, its load visits so many units, and of each call after it comes what its row says
+abbrev pub Gives : (register : List ℕ) → (visits : ℕ) → List Row → Type 0
+Gives register visits rows = outcomes_by (load_of register) (calls_in rows) ≡ Ok (visits, outcomes_in rows)
 
 -- ---- "The program": "One generating unit, good lines, conformance mode 0, lengths 2 3 4 2 3 4, automatic, intervals 10 to 12, MWB and
 -- MWO 100,000, no regulation, all rates 3 MW per minute, MW 100, 107, 93", and a look after them
@@ -90,21 +106,13 @@ program_register = header 1 0 2 3 4 2 3 4 ++ unit_record 1 0
 abbrev pub program_line : (mw : ℕ) → List ℕ
 program_line mw = good_line 0 100000 100000 0 0 3000 3000 mw 0x4040_0000 0x4040_0000
 
-abbrev pub program_calls : List Call
-program_calls =
-    sent 1 10 (program_line 0x42C8_0000)
-    ∷ sent 1 11 (program_line 0x42D6_0000)
-    ∷ sent 1 12 (program_line 0x42BA_0000)
-    ∷ operate (ask look) 1
-    ∷ []
-
 -- Small: 3% of 100 MW is 3, 2 × 3 is 6, and no trigger is under 6 MW. Large: 5 and 12; 6 MW. 7 MW off is past both
-abbrev pub program_outcomes : List Outcome
-program_outcomes =
-    reported (point_record 0 1 0 0 0 0 0)
-    ∷ reported (point_record 1 5 1 1 7000 600000 0)
-    ∷ reported (point_record 2 5 2 2 (minus 7000) 600000 0)
-    ∷ look_shows 2 2 2 11 (pos 0) ByOperator
+abbrev pub program_rows : List Row
+program_rows =
+    (sent 1 10 (program_line 0x42C8_0000), reported (point_record 0 1 0 0 0 0 0))
+    ∷ (sent 1 11 (program_line 0x42D6_0000), reported (point_record 1 5 1 1 7000 600000 0))
+    ∷ (sent 1 12 (program_line 0x42BA_0000), reported (point_record 2 5 2 2 (minus 7000) 600000 0))
+    ∷ (operate (ask look) 1, look_shows 2 2 2 11 (pos 0) ByOperator)
     ∷ []
 
 -- ---- "Individual unit": availability of 200 MW, ramp rate 2 up, and far more down; MWB 100, so above MW. "the large error trigger is 8 MW"
@@ -120,42 +128,26 @@ individual_interval number =
     (good_line 0 100000 200000 0 0 2000 50000 0x42B7_0000 0x4000_0000 0x4248_0000
     ++ good_line 0 100000 200000 0 0 2000 50000 0x42BA_0000 0x4000_0000 0x4248_0000)
 
-abbrev pub individual_calls : List Call
-individual_calls =
-    individual_interval 1
-    ∷ individual_interval 2
-    ∷ individual_interval 3
-    ∷ individual_interval 4
-    ∷ individual_interval 5
-    ∷ individual_interval 6
-    ∷ individual_interval 7
-    ∷ individual_interval 8
-    ∷ individual_interval 9
-    ∷ individual_interval 10
-    ∷ operate (ask reason) 1
-    ∷ operate (ask reason) 2
-    ∷ []
-
 abbrev pub large_error : (status small_run large_run level : ℕ) → List ℕ
 large_error status small_run large_run level = point_record status 5 small_run large_run (minus 8500) 600000 level
 
 abbrev pub small_error : (status small_run level : ℕ) → List ℕ
 small_error status small_run level = point_record status 4 small_run 0 (minus 7000) 600000 level
 
-abbrev pub individual_outcomes : List Outcome
-individual_outcomes =
-    reported (blank ++ blank)
-    ∷ reported (large_error 1 1 1 0 ++ small_error 1 1 0)
-    ∷ reported (large_error 1 2 2 0 ++ small_error 1 2 0)
-    ∷ reported (large_error 2 3 3 0 ++ small_error 1 3 0)
-    ∷ reported (large_error 2 4 4 0 ++ small_error 1 4 0)
-    ∷ reported (large_error 3 5 5 0 ++ small_error 1 5 0)
-    ∷ reported (large_error 4 0 0 91500 ++ small_error 2 6 0)
-    ∷ reported (large_error 4 0 0 91500 ++ small_error 2 7 0)
-    ∷ reported (large_error 4 0 0 91500 ++ small_error 3 8 0)
-    ∷ reported (large_error 4 0 0 91500 ++ small_error 4 0 93000)
-    ∷ reasoned (ByLargeRun (record { first = 2; last = 7 }))
-    ∷ reasoned (BySmallRun (record { first = 2; last = 10 }))
+abbrev pub individual_rows : List Row
+individual_rows =
+    (individual_interval 1, reported (blank ++ blank))
+    ∷ (individual_interval 2, reported (large_error 1 1 1 0 ++ small_error 1 1 0))
+    ∷ (individual_interval 3, reported (large_error 1 2 2 0 ++ small_error 1 2 0))
+    ∷ (individual_interval 4, reported (large_error 2 3 3 0 ++ small_error 1 3 0))
+    ∷ (individual_interval 5, reported (large_error 2 4 4 0 ++ small_error 1 4 0))
+    ∷ (individual_interval 6, reported (large_error 3 5 5 0 ++ small_error 1 5 0))
+    ∷ (individual_interval 7, reported (large_error 4 0 0 91500 ++ small_error 2 6 0))
+    ∷ (individual_interval 8, reported (large_error 4 0 0 91500 ++ small_error 2 7 0))
+    ∷ (individual_interval 9, reported (large_error 4 0 0 91500 ++ small_error 3 8 0))
+    ∷ (individual_interval 10, reported (large_error 4 0 0 91500 ++ small_error 4 0 93000))
+    ∷ (operate (ask reason) 1, reasoned (ByLargeRun (record { first = 2; last = 7 })))
+    ∷ (operate (ask reason) 2, reasoned (BySmallRun (record { first = 2; last = 10 })))
     ∷ []
 
 -- ---- A.5's aggregates, of generating units where its units are semi-scheduled, which stand in no chain. A.5's lengths of runs are 6, 8 and the
@@ -172,14 +164,11 @@ cap_lines mw =
     good_line 1 50000 100000 0 0 2000 1000 mw 0x4000_0000 0x3F80_0000
     ++ good_line 1 100000 200000 0 0 3000 2000 0x42C8_0000 0x4040_0000 0x4000_0000
 
-abbrev pub cap_calls : List Call
-cap_calls = sent 3 1 (cap_lines 0x4276_0000) ∷ sent 3 2 (cap_lines 0x4276_0000) ∷ sent 3 3 (cap_lines 0x427A_0000) ∷ []
-
-abbrev pub cap_outcomes : List Outcome
-cap_outcomes =
-    reported (off ++ (off ++ blank))
-    ∷ reported (off ++ (off ++ point_record 1 4 1 0 11500 600000 0))
-    ∷ reported (off ++ (off ++ point_record 1 5 2 1 12500 600000 0))
+abbrev pub cap_rows : List Row
+cap_rows =
+    (sent 3 1 (cap_lines 0x4276_0000), reported (off ++ (off ++ blank)))
+    ∷ (sent 3 2 (cap_lines 0x4276_0000), reported (off ++ (off ++ point_record 1 4 1 0 11500 600000 0)))
+    ∷ (sent 3 3 (cap_lines 0x427A_0000), reported (off ++ (off ++ point_record 1 5 2 1 12500 600000 0)))
     ∷ []
 
 -- "Mixed Aggregate", "with individual and aggregated dispatch conformance": 100 MW with rates 1 up and 2 down, conformance mode 2, and a
@@ -194,14 +183,11 @@ mixed_lines mw =
     good_line 2 50000 100000 0 0 1000 2000 mw 0x3F80_0000 0x4000_0000
     ++ good_line 1 (minus 20000) 200000 0 0 3000 2000 0xC20E_0000 0x4040_0000 0x4000_0000
 
-abbrev pub mixed_calls : List Call
-mixed_calls = sent 3 1 (mixed_lines 0x4262_0000) ∷ sent 3 2 (mixed_lines 0x4262_0000) ∷ sent 3 3 (mixed_lines 0x4248_0000) ∷ []
-
-abbrev pub mixed_outcomes : List Outcome
-mixed_outcomes =
-    reported (blank ++ (off ++ blank))
-    ∷ reported (point_record 1 5 1 1 6500 600000 0 ++ (off ++ point_record 1 4 1 0 (minus 9000) 800000 0))
-    ∷ reported (point_record 0 2 0 0 0 600000 0 ++ (off ++ point_record 1 5 2 1 (minus 15500) 800000 0))
+abbrev pub mixed_rows : List Row
+mixed_rows =
+    (sent 3 1 (mixed_lines 0x4262_0000), reported (blank ++ (off ++ blank)))
+    ∷ (sent 3 2 (mixed_lines 0x4262_0000), reported (point_record 1 5 1 1 6500 600000 0 ++ (off ++ point_record 1 4 1 0 (minus 9000) 800000 0)))
+    ∷ (sent 3 3 (mixed_lines 0x4248_0000), reported (point_record 0 2 0 0 0 600000 0 ++ (off ++ point_record 1 5 2 1 (minus 15500) 800000 0)))
     ∷ []
 
 -- "Target Aggregate": 200 MW with rates 2 up and 3 down, FCL 10, and a load, 200 MW with 2 up and 4 down. MWB 150 or 200, and 100.
@@ -216,27 +202,19 @@ target_lines mwb mw =
     good_line 1 mwb 200000 0 10000 2000 3000 mw 0x4000_0000 0x4040_0000
     ++ good_line 1 100000 200000 0 0 2000 4000 0x42C8_0000 0x4000_0000 0x4080_0000
 
-abbrev pub target_calls : List Call
-target_calls =
-    sent 3 1 (target_lines 150000 0x4303_0000)
-    ∷ sent 3 2 (target_lines 150000 0x4303_0000)
-    ∷ sent 3 3 (target_lines 200000 0x4321_0000)
-    ∷ sent 3 4 (target_lines 200000 0x4333_0000)
-    ∷ []
-
-abbrev pub target_outcomes : List Outcome
-target_outcomes =
-    reported (off ++ (off ++ blank))
-    ∷ reported (off ++ (off ++ point_record 1 4 1 0 (minus 9000) 600000 0))
-    ∷ reported (off ++ (off ++ point_record 1 5 2 1 11000 600000 0))
-    ∷ reported (off ++ (off ++ point_record 1 5 3 2 (minus 11000) 600000 0))
+abbrev pub target_rows : List Row
+target_rows =
+    (sent 3 1 (target_lines 150000 0x4303_0000), reported (off ++ (off ++ blank)))
+    ∷ (sent 3 2 (target_lines 150000 0x4303_0000), reported (off ++ (off ++ point_record 1 4 1 0 (minus 9000) 600000 0)))
+    ∷ (sent 3 3 (target_lines 200000 0x4321_0000), reported (off ++ (off ++ point_record 1 5 2 1 11000 600000 0)))
+    ∷ (sent 3 4 (target_lines 200000 0x4333_0000), reported (off ++ (off ++ point_record 1 5 3 2 (minus 11000) 600000 0)))
     ∷ []
 
 -- ---- what A.5 leaves open
 
 -- A generating unit, a load, a bidirectional unit and a semi-scheduled one, each in no chain, with MWB 100, MWO 400, FCR 5 and FCL 2. Rates up are
 -- 4 by SCADA and 6 as bid, so 4; down 7 and 5, so 5. At 125 MW down counts. Small: 12 and 10; 10 MW. Large: 20 and 20; 20 MW. For the load up
--- is FCL: 125 - 102 is 23, for the others FCR: 125 - 105 is 20, which is not greater. At 87 up counts. Small: 12 and 8; 8 MW. Large: 20 and 16.
+-- is FCL: 125 - 102 is 23, for the others FCR: 125 - 105 is 20, which is not greater. At 87 up counts. Small: 12 and 8; 8 MW. Large: 20 and 16; 16 MW.
 -- For the load down is FCR: 95 - 87 is 8, which is not greater, for the others FCL: 98 - 87 is 11. On target the least of four rates counts: SCADA
 -- up 4; bid down 5; bid up 3. Of the semi-scheduled unit the kept cap flag is 1 at 125 and at 87, where an error below is CLEAR, and then 0: OFF.
 -- At 87 MWB is 103, which is compared with on target, where FCR and FCL are 0: 101 - 100 is 1, and for the load 100 lies between 98 and 105
@@ -258,32 +236,33 @@ kinds_lines_on_target =
     ++ (kinds_line 0 100000 0 0 0x42C8_0000 3000 6000 0x4080_0000 0x40E0_0000
     ++ kinds_line 1 100000 0 0 0x42C8_0000 6000 5000 0x4080_0000 0x40E0_0000))
 
-abbrev pub kinds_calls : List Call
-kinds_calls =
-    sent 4 1 (kinds_lines 1 100000 0x42FA_0000)
-    ∷ sent 4 2 (kinds_lines 1 100000 0x42FA_0000)
-    ∷ sent 4 3 (kinds_lines 0 103000 0x42AE_0000)
-    ∷ sent 4 4 kinds_lines_on_target
-    ∷ []
-
-abbrev pub kinds_outcomes : List Outcome
-kinds_outcomes =
-    reported (blank ++ (blank ++ (blank ++ blank)))
-    ∷ reported
-    (point_record 1 4 1 0 20000 1000000 0
-    ++ (point_record 1 5 1 1 23000 1000000 0
-    ++ (point_record 1 4 1 0 20000 1000000 0
-    ++ point_record 1 4 1 0 20000 1000000 0)))
-    ∷ reported
-    (point_record 2 4 2 0 (minus 11000) 800000 0
-    ++ (point_record 0 2 0 0 (minus 8000) 800000 0
-    ++ (point_record 2 4 2 0 (minus 11000) 800000 0
-    ++ point_record 0 2 0 0 (minus 11000) 800000 0)))
-    ∷ reported
-    (point_record 0 2 0 0 (minus 1000) 800000 0
-    ++ (point_record 0 2 0 0 0 1000000 0
-    ++ (point_record 0 2 0 0 (minus 1000) 600000 0
-    ++ off)))
+abbrev pub kinds_rows : List Row
+kinds_rows =
+    (sent 4 1 (kinds_lines 1 100000 0x42FA_0000), reported (blank ++ (blank ++ (blank ++ blank))))
+    ∷ (
+      sent 4 2 (kinds_lines 1 100000 0x42FA_0000),
+      reported
+          (point_record 1 4 1 0 20000 1000000 0
+          ++ (point_record 1 5 1 1 23000 1000000 0
+          ++ (point_record 1 4 1 0 20000 1000000 0
+          ++ point_record 1 4 1 0 20000 1000000 0))),
+    )
+    ∷ (
+      sent 4 3 (kinds_lines 0 103000 0x42AE_0000),
+      reported
+          (point_record 2 4 2 0 (minus 11000) 800000 0
+          ++ (point_record 0 2 0 0 (minus 8000) 800000 0
+          ++ (point_record 2 4 2 0 (minus 11000) 800000 0
+          ++ point_record 0 2 0 0 (minus 11000) 800000 0))),
+    )
+    ∷ (
+      sent 4 4 kinds_lines_on_target,
+      reported
+          (point_record 0 2 0 0 (minus 1000) 800000 0
+          ++ (point_record 0 2 0 0 0 1000000 0
+          ++ (point_record 0 2 0 0 (minus 1000) 600000 0
+          ++ off))),
+    )
     ∷ []
 
 -- An aggregate whose sums differ on both sides: a generating unit with rates 1 up and 5 down, and a load with 2 up and 4 down, in conformance
@@ -299,20 +278,12 @@ sides_lines mwb mwo fcr fcl mw load_mwo load_fcr load_fcl =
     good_line 1 mwb mwo fcr fcl 1000 5000 mw 0x3F80_0000 0x40A0_0000
     ++ good_line 0 50000 load_mwo load_fcr load_fcl 2000 4000 0x4270_0000 0x4000_0000 0x4080_0000
 
-abbrev pub sides_calls : List Call
-sides_calls =
-    sent 3 1 (sides_lines 200000 300000 4000 1000 0x433E_8000 100000 2000 3000)
-    ∷ sent 3 2 (sides_lines 200000 300000 4000 1000 0x433E_8000 100000 2000 3000)
-    ∷ operate (ask target) 3
-    ∷ sent 3 3 (sides_lines 160000 100000 0 0 0x4361_8000 300000 0 0)
-    ∷ []
-
-abbrev pub sides_outcomes : List Outcome
-sides_outcomes =
-    reported (off ++ (off ++ blank))
-    ∷ reported (off ++ (off ++ point_record 1 5 1 1 (minus 15500) 800000 0))
-    ∷ targeted (record { target = pos 150000; raise = 6000; lower = 4000; complete = true })
-    ∷ reported (off ++ (off ++ point_record 2 4 2 0 9500 900000 0))
+abbrev pub sides_rows : List Row
+sides_rows =
+    (sent 3 1 (sides_lines 200000 300000 4000 1000 0x433E_8000 100000 2000 3000), reported (off ++ (off ++ blank)))
+    ∷ (sent 3 2 (sides_lines 200000 300000 4000 1000 0x433E_8000 100000 2000 3000), reported (off ++ (off ++ point_record 1 5 1 1 (minus 15500) 800000 0)))
+    ∷ (operate (ask target) 3, targeted (record { target = pos 150000; raise = 6000; lower = 4000; complete = true }))
+    ∷ (sent 3 3 (sides_lines 160000 100000 0 0 0x4361_8000 300000 0 0), reported (off ++ (off ++ point_record 2 4 2 0 9500 900000 0)))
     ∷ []
 
 -- A generating unit, a load and a bidirectional unit in one chain, each in conformance mode 2, with MWB 10, MWO 100 and rates of 3, at -20, -15
@@ -327,9 +298,6 @@ levels_line mw = good_line 2 10000 100000 0 0 3000 3000 mw 0x4040_0000 0x4040_00
 abbrev pub levels_interval : ℕ → Call
 levels_interval number = sent 4 number (levels_line 0xC1A0_0000 ++ (levels_line 0xC170_0000 ++ levels_line 0xC1A0_0000))
 
-abbrev pub levels_calls : List Call
-levels_calls = levels_interval 1 ∷ levels_interval 2 ∷ levels_interval 3 ∷ levels_interval 4 ∷ levels_interval 5 ∷ []
-
 abbrev pub levels_records : (status runs bidirectional aggregate : ℕ) → Outcome
 levels_records status runs bidirectional aggregate =
     reported
@@ -338,13 +306,13 @@ levels_records status runs bidirectional aggregate =
     ++ (point_record status 5 runs runs (minus 30000) 600000 bidirectional
     ++ point_record status 5 runs runs (minus 35000) 600000 aggregate)))
 
-abbrev pub levels_outcomes : List Outcome
-levels_outcomes =
-    reported (blank ++ (blank ++ (blank ++ blank)))
-    ∷ levels_records 1 1 0 0
-    ∷ levels_records 2 2 0 0
-    ∷ levels_records 3 3 0 0
-    ∷ levels_records 4 0 (minus 20000) (minus 25000)
+abbrev pub levels_rows : List Row
+levels_rows =
+    (levels_interval 1, reported (blank ++ (blank ++ (blank ++ blank))))
+    ∷ (levels_interval 2, levels_records 1 1 0 0)
+    ∷ (levels_interval 3, levels_records 2 2 0 0)
+    ∷ (levels_interval 4, levels_records 3 3 0 0)
+    ∷ (levels_interval 5, levels_records 4 0 (minus 20000) (minus 25000))
     ∷ []
 
 -- The unit of "The program", at 107 again and again: modes, refusals, a jump in numbers and operator calls. Refused are an interval that is not
@@ -362,95 +330,56 @@ headed mode first_spare second_spare third_spare =
 abbrev pub manual : (number : ℕ) → Call
 manual number = interval (buffer number 0 calls_line) (report_before 1)
 
-abbrev pub calls_list : List Call
-calls_list =
-    sent 1 10 calls_line
-    ∷ sent 1 11 calls_line
-    ∷ sent 1 11 calls_line
-    ∷ headed 2 0 0 0
-    ∷ headed 1 1 0 0
-    ∷ headed 1 0 1 0
-    ∷ headed 1 0 0 1
-    ∷ interval (take 47 (buffer 12 1 calls_line)) (report_before 1)
-    ∷ interval (buffer 12 1 calls_line) (replicate 15 255)
-    ∷ operate (declare (pos 5000)) 1
-    ∷ manual 12
-    ∷ manual 13
-    ∷ operate (ask look) 1
-    ∷ manual 14
-    ∷ sent 1 16 calls_line
-    ∷ operate (ask reason) 1
-    ∷ sent 1 17 calls_line
-    ∷ operate (declare (pos 5000)) 1
-    ∷ operate (ask reason) 1
-    ∷ operate reinstate 1
-    ∷ operate reinstate 1
-    ∷ operate (ask look) 1
-    ∷ sent 1 18 calls_line
-    ∷ sent 1 19 (line 1 0 0 100000 100000 0 0 3000 3000 0x42D6_0000 0x4040_0000 0x4040_0000)
-    ∷ sent 1 20 calls_line
-    ∷ operate (declare (negsuc 0)) 1
-    ∷ operate (declare (pos 5000)) 1
-    ∷ operate (ask look) 1
-    ∷ sent 1 21 (line 2 0 0 100000 100000 0 0 3000 3000 0 0 0)
-    ∷ sent 1 22 (line 0 0 1 100000 100000 0 0 3000 3000 0x42D6_0000 0x4040_0000 0x4040_0000)
-    ∷ sent 1 23 calls_line
-    ∷ sent 1 24 calls_line
-    ∷ operate (ask look) 0
-    ∷ operate (ask look) 2
-    ∷ operate (ask target) 1
-    ∷ []
-
--- at 107, with so many marks
+-- LARGE at 107, with this status and both runs
 abbrev pub counted_to : (status runs : ℕ) → Outcome
 counted_to status runs = reported (point_record status 5 runs runs 7000 600000 0)
 
-abbrev pub calls_outcomes : List Outcome
-calls_outcomes =
-    reported blank
-    ∷ counted_to 1 1
-    ∷ refusal 21
-    ∷ refusal 9
-    ∷ refusal 9
-    ∷ refusal 9
-    ∷ refusal 9
-    ∷ refusal 8
-    ∷ refusal 8
-    ∷ refusal 22
-    ∷ counted_to 2 2
-    ∷ counted_to 2 3
-    ∷ look_shows 2 3 3 11 (pos 0) ByOperator
-    ∷ counted_to 2 4
-    ∷ reported (point_record 3 1 4 4 0 0 0)
-    ∷ refusal 36
-    ∷ reported (point_record 4 5 0 0 7000 600000 107000)
-    ∷ refusal 22
-    ∷ reasoned (ByLargeRun (record { first = 11; last = 17 }))
-    ∷ done
-    ∷ refusal 23
-    ∷ look_shows 0 0 0 0 (pos 0) ByOperator
-    ∷ counted_to 1 1
-    ∷ reported (point_record 1 3 1 1 7000 600000 0)
-    ∷ counted_to 2 2
-    ∷ refusal 11
-    ∷ done
-    ∷ look_shows 4 0 0 0 (pos 5000) ByOperator
-    ∷ reported (point_record 4 1 0 0 0 0 5000)
-    ∷ reported (point_record 4 1 0 0 0 0 5000)
-    ∷ reported (point_record 4 1 0 0 0 0 5000)
-    ∷ reported (point_record 4 5 0 0 7000 600000 5000)
-    ∷ refusal 10
-    ∷ refusal 10
-    ∷ refusal 10
+abbrev pub calls_rows : List Row
+calls_rows =
+    (sent 1 10 calls_line, reported blank)
+    ∷ (sent 1 11 calls_line, counted_to 1 1)
+    ∷ (sent 1 11 calls_line, refusal 21)
+    ∷ (headed 2 0 0 0, refusal 9)
+    ∷ (headed 1 1 0 0, refusal 9)
+    ∷ (headed 1 0 1 0, refusal 9)
+    ∷ (headed 1 0 0 1, refusal 9)
+    ∷ (interval (take 47 (buffer 12 1 calls_line)) (report_before 1), refusal 8)
+    ∷ (interval (buffer 12 1 calls_line) (replicate 15 255), refusal 8)
+    ∷ (operate (declare (pos 5000)) 1, refusal 22)
+    ∷ (manual 12, counted_to 2 2)
+    ∷ (manual 13, counted_to 2 3)
+    ∷ (operate (ask look) 1, look_shows 2 3 3 11 (pos 0) ByOperator)
+    ∷ (manual 14, counted_to 2 4)
+    ∷ (sent 1 16 calls_line, reported (point_record 3 1 4 4 0 0 0))
+    ∷ (operate (ask reason) 1, refusal 36)
+    ∷ (sent 1 17 calls_line, reported (point_record 4 5 0 0 7000 600000 107000))
+    ∷ (operate (declare (pos 5000)) 1, refusal 22)
+    ∷ (operate (ask reason) 1, reasoned (ByLargeRun (record { first = 11; last = 17 })))
+    ∷ (operate reinstate 1, done)
+    ∷ (operate reinstate 1, refusal 23)
+    ∷ (operate (ask look) 1, look_shows 0 0 0 0 (pos 0) ByOperator)
+    ∷ (sent 1 18 calls_line, counted_to 1 1)
+    ∷ (sent 1 19 (line 1 0 0 100000 100000 0 0 3000 3000 0x42D6_0000 0x4040_0000 0x4040_0000), reported (point_record 1 3 1 1 7000 600000 0))
+    ∷ (sent 1 20 calls_line, counted_to 2 2)
+    ∷ (operate (declare (negsuc 0)) 1, refusal 11)
+    ∷ (operate (declare (pos 5000)) 1, done)
+    ∷ (operate (ask look) 1, look_shows 4 0 0 0 (pos 5000) ByOperator)
+    ∷ (sent 1 21 (line 2 0 0 100000 100000 0 0 3000 3000 0 0 0), reported (point_record 4 1 0 0 0 0 5000))
+    ∷ (sent 1 22 (line 0 0 1 100000 100000 0 0 3000 3000 0x42D6_0000 0x4040_0000 0x4040_0000), reported (point_record 4 1 0 0 0 0 5000))
+    ∷ (sent 1 23 calls_line, reported (point_record 4 1 0 0 0 0 5000))
+    ∷ (sent 1 24 calls_line, reported (point_record 4 5 0 0 7000 600000 5000))
+    ∷ (operate (ask look) 0, refusal 10)
+    ∷ (operate (ask look) 2, refusal 10)
+    ∷ (operate (ask target) 1, refusal 10)
     ∷ []
 
 pub record Examples : Type 0 where
-  pub program : Gives program_register program_calls 0 program_outcomes
-  pub individual_units : Gives individual_register individual_calls 0 individual_outcomes
-  pub cap_aggregate : Gives cap_register cap_calls 2 cap_outcomes
-  pub mixed_aggregate : Gives mixed_register mixed_calls 2 mixed_outcomes
-  pub target_aggregate : Gives target_register target_calls 2 target_outcomes
-  pub sides_of_units : Gives kinds_register kinds_calls 0 kinds_outcomes
-  pub sides_of_aggregate : Gives sides_register sides_calls 2 sides_outcomes
-  pub levels : Gives levels_register levels_calls 3 levels_outcomes
-  pub calls_and_refusals : Gives program_register calls_list 0 calls_outcomes
+  pub program : Gives program_register 0 program_rows
+  pub individual_units : Gives individual_register 0 individual_rows
+  pub cap_aggregate : Gives cap_register 2 cap_rows
+  pub mixed_aggregate : Gives mixed_register 2 mixed_rows
+  pub target_aggregate : Gives target_register 2 target_rows
+  pub sides_of_units : Gives kinds_register 0 kinds_rows
+  pub sides_of_aggregate : Gives sides_register 2 sides_rows
+  pub levels : Gives levels_register 3 levels_rows
+  pub calls_and_refusals : Gives program_register 0 calls_rows
