@@ -125,7 +125,7 @@ reinstate_of m p = operated_of reinstate m p
 unfoldable pub looked_of : Monitor → ℕ → Result Point CallRefusal
 looked_of m p = result_and (operator_verdict (ask look) m p) (Ok (point_at m (place p)))
 
--- "A new call on a declared point returns small run, large run or operator" (02, 2026-06). "Like a look" it changes nothing
+-- "A new call on a declared point returns small run, large run or operator" (02, 2026-06). It changes nothing, "like a look"
 unfoldable pub reasoned_of : Monitor → ℕ → Result Reason CallRefusal
 reasoned_of m p = result_and (operator_verdict (ask reason) m p) (Ok (point_at m (place p)).reason)
 
