@@ -1,7 +1,7 @@
 -- What `load` promises of lists of calls, said a second time: over the bytes of the register, of the buffers and of the reports, over numbers
 -- and the list of calls. It uses none of the definitions that say what is accepted, how a run grows, which status shows and what is seen of a
 -- report, so that a slip in one of those, made alike in the code, does not meet both statements.
-use Rattle.std.specs.Prelude.{◌≡◌, ◌↔◌, ◌⊎◌, true, false, List, [], ◌∷◌, ◌++◌, ℕ, suc, ◌+◌, ◌-◌, ◌*◌, ◌≤◌, ◌<◌, min, pos, length, get_or, take, drop}
+use Rattle.std.specs.Prelude.{◌≡◌, ◌↔◌, true, false, List, ◌∷◌, ◌++◌, ℕ, suc, ◌+◌, ◌-◌, ◌*◌, ◌≤◌, ◌<◌, min, pos, length, get_or, take, drop}
 use Rattle.trace.specs.Lists.{Alike}
 use Rattle.trace.specs.Counts.{CountedSince}
 use Rattle.plants.specs.Plants.{Plant, place, elem}
@@ -41,11 +41,15 @@ pub record Fates (plant : Plant) (m : Monitor) : Type 0 where
 
 -- ---- the groups, and which lists are alike for one
 
--- "A group is an aggregate with its members, or a unit in no chain". Units are numbered from 1, places and aggregates counted from 0
+-- a point is an aggregate's own, or that of one of its members. Units are numbered from 1, places and aggregates counted from 0
+pub data PointOf (plant : Plant) (j : ℕ) : ℕ → Type 0 where
+  own : j < plant.aggregates → PointOf plant j (suc (plant.units + j))
+  member : {u : ℕ} → u < plant.units → elem u (plant.members j) ≡ true → PointOf plant j (suc u)
+
+-- "A group is an aggregate with its members, or a unit in no chain"
 pub record Grouped (plant : Plant) : Type 0 where
-  pub own : (u : ℕ) → u < plant.units → names plant (unit u) (suc u) ≡ true
-  pub aggregate_itself : (j : ℕ) → j < plant.aggregates → names plant (aggregate j) (suc (plant.units + j)) ≡ true
-  pub members : (j u : ℕ) → u < plant.units → elem u (plant.members j) ≡ true → names plant (aggregate j) (suc u) ≡ true
+  pub units : (u p : ℕ) → (names plant (unit u) p ≡ true) ↔ ((u < plant.units) × (p ≡ suc u))
+  pub aggregates : (j p : ℕ) → (names plant (aggregate j) p ≡ true) ↔ PointOf plant j p
 
 -- an interval buffer with other 40 bytes in the place of the line of unit u
 abbrev pub rewritten : List ℕ → ℕ → List ℕ → List ℕ
