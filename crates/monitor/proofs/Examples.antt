@@ -49,7 +49,7 @@ use Rattle.monitor.specs.Examples.{Examples}
 
 -- Each of these stands for the definitions that it computes with.
 
-loaded_of : List ℕ → Result Loaded RegisterRefusal
+unfoldable pub loaded_of : List ℕ → Result Loaded RegisterRefusal
 unfolding load_of registered_of records_from chained_from accepted_as fields_known lengths_rise every sweep records kind_of
     register.fields_of register.kinds_of register.nexts_of register.heads_of chain members_of all_members times_in met_at chained_of
     start_at count_at flat_of roster_of indices_in met_once rest_ends members_scheduled kinds_known begun
@@ -70,7 +70,7 @@ unfolding assessed is_known add_signed add_flags add_present add_kept add_readab
     aggregate_basis sums_assessment
 summed = aggregate_assessment
 
-answered : Monitor → Call → Outcome
+unfoldable pub answered : Monitor → Call → Outcome
 unfolding read assessed summed interval_of report_of monitor_after interval_verdict judge_interval judge_header headed sound_of sound_by roster_sound
     places_in stretches_in kinds_known kept_bounded plant_in no_roster stretch_of entries every sweep records kept_after kept_from kept_line line_at
     target_of target_over members_kept member_at rule_of is_fresh sight_at assessment_at assessment_in point_after record_after record_of bytes_of

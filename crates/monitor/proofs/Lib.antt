@@ -17,3 +17,4 @@ pub mod Accepted
 pub mod Restated
 pub mod Demand
 pub mod Examples
+pub mod Bounds

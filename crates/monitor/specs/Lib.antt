@@ -7,3 +7,4 @@ pub mod Restated
 pub mod Targets
 pub mod Loading
 pub mod Examples
+pub mod Bounds
