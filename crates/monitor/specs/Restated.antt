@@ -5,6 +5,7 @@ use Rattle.std.specs.Prelude.{◌≡◌, ◌↔◌, true, false, List, ◌∷◌
 use Rattle.trace.specs.Lists.{Alike}
 use Rattle.trace.specs.Counts.{CountedSince}
 use Rattle.plants.specs.Plants.{Plant, place, elem}
+use Rattle.marks.specs.Numbers.{Numbered}
 use Rattle.points.specs.Statuses.{Status}
 use Rattle.points.specs.declared.Point.{Point}
 use Rattle.intervals.specs.Plants.{Group, unit, aggregate}
@@ -12,7 +13,7 @@ use Rattle.intervals.specs.Headers.{interval_number, WellFormed}
 use Rattle.intervals.specs.declared.Monitor.{Monitor}
 use Rattle.operators.specs.Operators.{Operator, ask, look}
 use Rattle.monitor.specs.Calls.{Call, interval, operate, Outcome, refusal, reported, looked, answer, after}
-use Rattle.monitor.specs.History.{begin, extend, history}
+use Rattle.monitor.specs.History.{begin, assessment_then, extend, history}
 use Rattle.monitor.specs.Demands.{names, Matched, Outside, IsPoint, Declared}
 use Rattle.monitor.specs.Reasons.{counts_small, clears_small, counts_large, clears_large, Marks, Clears}
 
@@ -68,7 +69,7 @@ pub record Covered (plant : Plant) (g : Group) : Type 0 where
 -- ==== The register's numbers
 
 -- "unit count n ..; aggregate count m ..; six run lengths Ns, Ps, Ds, Nl, Pl, Dl, a byte each": the first eight bytes of the header
-pub record Numbered (register : List ℕ) (plant : Plant) : Type 0 where
+pub record RegisterNumbers (register : List ℕ) (plant : Plant) : Type 0 where
   pub units : plant.units ≡ get_or register 0 0
   pub aggregates : plant.aggregates ≡ get_or register 1 0
   pub ns : plant.small.not_responding ≡ get_or register 2 0
@@ -132,13 +133,16 @@ pub record ShownDeclared (q : Point) : Type 0 where
 -- ==== What holds of the state that an accepted load of these bytes returns; the plant is that of their chains
 
 pub record Restated (register : List ℕ) (plant : Plant) (m : Monitor) : Type 0 where
-  pub numbers : Numbered register plant
+  pub numbers : RegisterNumbers register plant
   pub groups : Grouped plant
   pub covers : (g : Group) → Covered plant g
   pub fates : Fates plant m
   -- a look is accepted exactly at a point: 10 is "point 0 or above n+m"
   pub points : (calls : List Call) (p : ℕ) → ((q : Point) × (answer (after m calls) (operate (ask look) p) ≡ looked q)) ↔ IsPoint plant p
   pub accepts : (calls : List Call) (buffer report : List ℕ) → Accepted (after m calls) buffer report ↔ AcceptableAfter plant m calls buffer report
+  -- a point's mark in the history is the one that the report tells, by its number: its record's second byte
+  pub marks : (calls : List Call) (buffer report x : List ℕ) → answer (after m calls) (interval buffer report) ≡ reported x
+      → (p : ℕ) → IsPoint plant p → Numbered (assessment_then plant (history plant calls) buffer (place p)).mark (get_or x (16 * (p - 1) + 1) 0)
   -- "A jump in interval number makes all kept lines stale": where no interval of the number before was accepted, each mark of the report, its
   -- record's second byte, is 0 OFF or 1 BLANK
   pub jumps : (calls : List Call) (buffer report x : List ℕ) → answer (after m calls) (interval buffer report) ≡ reported x
