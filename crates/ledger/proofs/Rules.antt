@@ -59,29 +59,28 @@ module _ (third : Entry) where
       let n = none-counted (conformant_day e) (count_in conformant_day between) z in
       inr (rw (m, n.0), n.1)
 
-  other-day : (e : Entry) (met : Bool) (k : ℕ) (days : List Entry) → instance_day e ≡ false → Back (met || conformant_day e) k days → Back met k (e ∷ days)
-  other-day e met k days o b =
+  -- the way to the first goes one day further back, of which so many on it are instances
+  further : (e : Entry) (met later : Bool) (passed more : ℕ) (days : List Entry) (b : Back later passed days)
+      → count_in instance_day (e ∷ b.between) ≡ more → Rule b.first met (e ∷ b.between) → Back met more (e ∷ days)
+  further e met later passed more days b n r =
       record {
         between = e ∷ b.between;
         first = b.first;
         earlier = b.earlier;
         splits = ap (λ (l : List Entry). e ∷ l) b.splits;
         instance-day = b.instance-day;
-        passed = rw o b.passed;
-        rule = rule-out e b.first met b.between b.rule;
+        passed = n;
+        rule = r;
       }
+
+  other-day : (e : Entry) (met : Bool) (k : ℕ) (days : List Entry) → instance_day e ≡ false → Back (met || conformant_day e) k days → Back met k (e ∷ days)
+  other-day e met k days o b =
+      further e met (met || conformant_day e) k k days b (rw o b.passed) (rule-out e b.first met b.between b.rule)
 
   instance-passed : (e : Entry) (met : Bool) (days : List Entry) → instance_day e ≡ true → Back met 0 days → Back met 1 (e ∷ days)
   instance-passed e met days i b =
-      record {
-        between = e ∷ b.between;
-        first = b.first;
-        earlier = b.earlier;
-        splits = ap (λ (l : List Entry). e ∷ l) b.splits;
-        instance-day = b.instance-day;
-        passed = rw (i, b.passed);
-        rule = rule-out e b.first met b.between (rw (not-conformant e.conduct i, or-false met) b.rule);
-      }
+      further e met met 0 1 days b (rw (i, b.passed))
+      (rule-out e b.first met b.between (rw (not-conformant e.conduct i, or-false met) b.rule))
 
   -- ---- from what is worked out to the words
 

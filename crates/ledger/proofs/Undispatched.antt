@@ -2,7 +2,6 @@
 use mathlib.Core.Path.{◌≡◌, refl, ◌∙◌}
 use mathlib.Core.Bool.{not, or-false}
 use mathlib.Core.List.{[], ◌∷◌}
-use borrow.Author.Tests.{eq-eqb}
 use Rattle.std.specs.Prelude.{Some, None}
 use Rattle.trace.specs.Refusals.{first_of, answered_by}
 use Rattle.calendar.specs.Dates.{is_date}
@@ -17,10 +16,7 @@ use Rattle.ledger.specs.declared.Conduct.{Conduct}
 use Rattle.ledger.specs.declared.Conduct.TheVariants.{Undispatched}
 use Rattle.ledger.specs.declared.Ledger.{Ledger}
 use Rattle.ledger.specs.declared.LedgerRefusal.TheVariants.{NoDate, NotLater}
-
-undispatched : (day : Day) → day.target ≡ 0 → conduct_of day ≡ Undispatched
-unfolding conduct_of
-undispatched day e = rw (eq-eqb day.target 0 e)
+use Rattle.ledger.proofs.Conducts.{conducts}
 
 module _ (l : Ledger) (date : Date) where
   entered-latest : (c : Conduct) → c ≡ Undispatched → entered l (window_of date) c ≡ with_latest l date
@@ -36,4 +32,4 @@ module _ (l : Ledger) (date : Date) where
   unfolding enter_of
   only-latest day z e =
       accepted-new (first_of ((NoDate, not (is_date date)) ∷ (NotLater, not_after (ordinal_of date) l.latest) ∷ [])) _ e
-      ∙ entered-latest (conduct_of day) (undispatched day z)
+      ∙ entered-latest (conduct_of day) ((conducts day).undispatched.1 z)

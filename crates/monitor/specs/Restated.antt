@@ -61,10 +61,14 @@ pub record Covered (plant : Plant) (g : Group) : Type 0 where
   -- "operator calls that name only points outside it, before the change and after, may be added, dropped or altered"
   pub added : (xs ys : List Call) (op : Operator) (p : ℕ) → names plant g p ≡ false → AlikeFor plant g (xs ++ ys) (xs ++ (operate op p ∷ ys))
   pub dropped : (xs ys : List Call) (op : Operator) (p : ℕ) → names plant g p ≡ false → AlikeFor plant g (xs ++ (operate op p ∷ ys)) (xs ++ ys)
-  -- "lines of units outside the group may be rewritten"; "What a report buffer held before its call may differ"
-  pub line : (xs ys : List Call) (buffer report report' line : List ℕ) (u : ℕ) → 1 ≤ u → u ≤ plant.units → names plant g u ≡ false
-      → 8 + 40 * u ≤ length buffer → length line ≡ 40 → length report ≡ length report'
-      → AlikeFor plant g (xs ++ (interval buffer report ∷ ys)) (xs ++ (interval (rewritten buffer u line) report' ∷ ys))
+  -- a call may stand in the place of one that it matches
+  pub exchanged : (xs ys : List Call) (c d : Call) → Matched plant g c d → AlikeFor plant g (xs ++ (c ∷ ys)) (xs ++ (d ∷ ys))
+  -- "What a report buffer held before its call may differ"
+  pub report : (buffer report report' : List ℕ) → length report ≡ length report' → Matched plant g (interval buffer report) (interval buffer report')
+  -- "lines of units outside the group may be rewritten"
+  pub line : (buffer report line : List ℕ) (u : ℕ) → 1 ≤ u → u ≤ plant.units → names plant g u ≡ false
+      → 8 + 40 * u ≤ length buffer → length line ≡ 40
+      → Matched plant g (interval buffer report) (interval (rewritten buffer u line) report)
 
 -- ==== The register's numbers
 
