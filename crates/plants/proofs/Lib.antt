@@ -1,3 +1,4 @@
 -- Laws of `specs/`, each shown once.
 pub mod Soundness
 pub mod Stretches
+pub mod Regions

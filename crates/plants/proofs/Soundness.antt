@@ -8,7 +8,8 @@ use lib.ListN.{get_or}
 use Rattle.trace.proofs.Sweeps.{every-at, sweep-none, sweep-more, sweep-end}
 use Rattle.trace.proofs.Tests.{and_l, and_r}
 use Rattle.plants.specs.declared.Roster.{Roster}
-use Rattle.plants.specs.Rosters.{start_of, count_of, counts_in, kinds_known, place_at, places_in, ends_at, stretches_in, roster_sound}
+use Rattle.plants.specs.Rosters.{start_of, count_of, counts_in, kinds_known, is_region_at, regions_known, place_at, places_in, ends_at, stretches_in}
+use Rattle.plants.specs.Rosters.{roster_sound}
 
 -- ---- counts
 
@@ -32,9 +33,10 @@ module _ (units aggregates : ℕ) where
 -- ---- a sound roster
 
 pub sound-by : (r : Roster) → counts_in r.units r.aggregates ≡ true → kinds_known r.kinds r.units ≡ true
+    → regions_known r.regions (r.units + r.aggregates) ≡ true
     → places_in r.members r.units ≡ true → stretches_in r.stretches r.aggregates ≡ true → roster_sound r ≡ true
 unfolding roster_sound
-sound-by r counts kinds places stretches = rw (counts, kinds, places, stretches)
+sound-by r counts kinds regions places stretches = rw (counts, kinds, regions, places, stretches)
 
 module _ (r : Roster) (sound : roster_sound r ≡ true) where
   abbrev counts : Bool
@@ -42,6 +44,9 @@ module _ (r : Roster) (sound : roster_sound r ≡ true) where
 
   abbrev kinds : Bool
   kinds = kinds_known r.kinds r.units
+
+  abbrev regions : Bool
+  regions = regions_known r.regions (r.units + r.aggregates)
 
   abbrev places : Bool
   places = places_in r.members r.units
@@ -51,7 +56,7 @@ module _ (r : Roster) (sound : roster_sound r ≡ true) where
 
   pub sound-counts : counts_in r.units r.aggregates ≡ true
   unfolding roster_sound
-  sound-counts = and_l counts (kinds && (places && stretches)) sound
+  sound-counts = and_l counts (kinds && (regions && (places && stretches))) sound
 
   pub sound-units : r.units ≤ 64
   sound-units = counts-units r.units r.aggregates sound-counts
@@ -59,9 +64,16 @@ module _ (r : Roster) (sound : roster_sound r ≡ true) where
   pub sound-aggregates : r.aggregates ≤ 16
   sound-aggregates = counts-aggregates r.units r.aggregates sound-counts
 
-  inside : (places && stretches) ≡ true
+  known : (regions && (places && stretches)) ≡ true
   unfolding roster_sound
-  inside = and_r kinds (places && stretches) (and_r counts (kinds && (places && stretches)) sound)
+  known = and_r kinds (regions && (places && stretches)) (and_r counts (kinds && (regions && (places && stretches))) sound)
+
+  inside : (places && stretches) ≡ true
+  inside = and_r regions (places && stretches) known
+
+  pub region-inside : (i : ℕ) → i < r.units + r.aggregates → get_or r.regions i 0 ≤ 4
+  unfolding regions_known
+  region-inside i l = leb-true _ 4 (every-at (is_region_at r.regions) (r.units + r.aggregates) (and_l regions (places && stretches) known) i l)
 
   pub place_inside : (k : ℕ) → k < 64 → get_or r.members k 0 < r.units
   unfolding places_in
@@ -73,6 +85,9 @@ module _ (r : Roster) (sound : roster_sound r ≡ true) where
 
 -- what an index of a sound roster's lists is below, for the functions that go along them
 pub ruleset in_bounds = (sound-units, sound-aggregates, stretch-inside)
+
+-- and the region of one of its points
+pub ruleset point_region = (sound-units, sound-aggregates, region-inside)
 
 -- one value for each of its aggregates, written in turn
 pub ruleset each_aggregate = (sound-aggregates, sweep-none, sweep-more, sweep-end)

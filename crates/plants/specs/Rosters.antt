@@ -41,6 +41,7 @@ held r =
       large = r.large;
       kinds = r.kinds;
       chained = r.chained;
+      regions = r.regions;
       members = stretch_of r;
     }
 
@@ -57,6 +58,7 @@ no_roster =
       large = no_lengths;
       kinds = replicate 64 None;
       chained = replicate 64 false;
+      regions = replicate 80 0;
       members = replicate 64 0;
       stretches = replicate 16 no_stretch;
     }
@@ -73,6 +75,16 @@ kind_at kinds i = is_some (get_or kinds i None)
 
 unfoldable pub kinds_known : List (Option Kind) → ℕ → Bool
 kinds_known kinds units = every (kind_at kinds) units
+
+-- regions 0 to 4, which is part of register refusal 4 too
+abbrev pub is_region : ℕ → Bool
+is_region region = leb region 4
+
+abbrev pub is_region_at : List ℕ → ℕ → Bool
+is_region_at regions i = is_region (get_or regions i 0)
+
+unfoldable pub regions_known : List ℕ → ℕ → Bool
+regions_known regions count = every (is_region_at regions) count
 
 -- every entry of the list is the place of a unit
 abbrev pub place_at : List ℕ → ℕ → ℕ → Bool
@@ -95,4 +107,5 @@ unfoldable pub roster_sound : Roster → Bool
 roster_sound r =
     counts_in r.units r.aggregates
     && (kinds_known r.kinds r.units
-    && (places_in r.members r.units && stretches_in r.stretches r.aggregates))
+    && (regions_known r.regions (r.units + r.aggregates)
+    && (places_in r.members r.units && stretches_in r.stretches r.aggregates)))

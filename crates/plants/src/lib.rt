@@ -1,9 +1,11 @@
-// What a monitor holds of a register: run lengths, units, kinds, and each aggregate's members side by side (01, "The register"; 02,
-// 2026-08).
+// What a monitor holds of a register: run lengths, units, kinds, regions, and each aggregate's members side by side (01, "The register"; 02,
+// 2026-08 and 2026-09).
 #![tactic(auto)]
 
-ghost use Rattle.std.specs.Prelude.{◌≡◌, ◌≤◌, ◌<◌, true};
-ghost use Rattle.plants.specs.Rosters.{no_roster, no_stretch, counts_in, kinds_known, places_in, stretch_in, stretches_in, stretch_of, roster_sound};
+ghost use Rattle.std.specs.Prelude.{◌≡◌, ◌≤◌, ◌<◌, length, true};
+ghost use Rattle.plants.specs.Plants.{shares_region, regions_shared};
+ghost use Rattle.plants.specs.Rosters.{no_roster, no_stretch, counts_in, kinds_known, is_region, regions_known, places_in};
+ghost use Rattle.plants.specs.Rosters.{stretch_in, stretches_in, stretch_of, held, roster_sound};
 
 use kinds::Kind;
 
@@ -24,7 +26,8 @@ pub struct Stretch {
 
 // A unit's place is its number less one; its kind is `None` where the register's number is not listed. `members` has the places of all
 // members, aggregate after aggregate, each in the order of its chain, and `stretches` where those of each aggregate stand. `chained` is
-// whether a unit is a member of some aggregate. Entries past the counts are no kind, 0 and false. Kinds come whole from a register's records
+// whether a unit is a member of some aggregate. `regions` goes by point, units first, so that no turn of an interval looks up a member for its
+// aggregate's. Entries past the counts are no kind, 0 and false. Kinds come whole from a register's records
 // and `chained` whole from the walk along its chains, so they are two lists, as in the rules' plant, and no list of pairs.
 // `small` and `large` are two fields here, in `Chains` and in `Rule`, as in the rules' plant: each use reads one length by the name of its run.
 #[derive(Clone, Copy, Debug, Default, PartialEq, Eq)]
@@ -35,6 +38,7 @@ pub struct Roster {
     pub large: Lengths,
     pub kinds: [Option<Kind>; 64],
     pub chained: [bool; 64],
+    pub regions: [u8; 80],
     pub members: [u8; 64],
     pub stretches: [Stretch; 16],
 }
@@ -52,6 +56,20 @@ pub fn known_kinds(kinds: &[Option<Kind>; 64], units: usize) -> bool
     ensures { result ≡ kinds_known kinds.now units }
 {
     kinds[..units].iter().all(|kind| kind.is_some())
+}
+
+fn is_region(region: u8) -> bool
+    ensures { result ≡ is_region region }
+{
+    region <= 4
+}
+
+// The first regions of a register's units, or of a roster's points.
+pub fn known_regions(regions: &[u8], count: usize) -> bool
+    requires { count ≤ length regions.now }
+    ensures { result ≡ regions_known regions.now count }
+{
+    regions[..count].iter().all(|region| is_region(*region))
 }
 
 // Every entry of the list is the place of a unit, past the last stretch too.
@@ -86,6 +104,7 @@ pub fn roster_sound(roster: &Roster) -> bool
 {
     counts_in(roster.units, roster.aggregates)
         && known_kinds(&roster.kinds, roster.units)
+        && known_regions(&roster.regions, roster.units + roster.aggregates)
         && places_in(&roster.members, roster.units)
         && stretches_in(&roster.stretches, roster.aggregates)
 }
@@ -104,4 +123,29 @@ impl Roster {
         let end = start + usize::from(stretch.count);
         &self.members[start..end]
     }
+
+    // Whether the members of an aggregate have its region. By a loop: in the closure of an `all` the bound of a member's place got no proof.
+    #[tactic(auto, using(crate::proofs::Soundness::in_bounds, crate::proofs::Regions::shared))]
+    fn shares_region(&self, aggregate: usize) -> bool
+        requires sound { roster_sound self.now ≡ true }
+        requires aggregate_in_bounds { aggregate < self.now.aggregates }
+        ensures { result ≡ shares_region (held self.now) aggregate }
+    {
+        let region = self.regions[self.units + aggregate];
+        for &place in self.stretch(aggregate) {
+            if self.regions[usize::from(place)] != region {
+                return false;
+            }
+        }
+        true
+    }
+}
+
+// 37: whether the members of each aggregate have its region.
+#[tactic(auto, unfolding(crate::specs::Plants::regions_shared))]
+pub fn regions_shared(roster: &Roster) -> bool
+    requires { roster_sound roster.now ≡ true }
+    ensures { result ≡ regions_shared (held roster.now) }
+{
+    (0..roster.aggregates).all(|aggregate| roster.shares_region(aggregate))
 }
