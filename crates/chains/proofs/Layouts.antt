@@ -10,21 +10,23 @@ use borrow.Author.Tests.{le-leb, lt-ltb}
 use lib.ListN.{length, get_or, drop, replicate, length-append, length-map, length-replicate}
 use lib.Seq.{append_snoc, get_or-append_seam, get_or-drop, take_at}
 use Rattle.std.proofs.lemmas.Bool.{cases_lt}
+use Rattle.std.specs.List.{list_all}
 use Rattle.trace.specs.Sweeps.{records}
-use Rattle.trace.proofs.Sweeps.{every-all, get_or-sweep, get_or-sweep-past, sweep-same, records-rise, replicate-same}
-use Rattle.plants.specs.Plants.{place}
-use Rattle.plants.specs.Rosters.{start_of, count_of, entries, stretch_of}
-use Rattle.plants.specs.Rosters.{kinds_known, place_at, places_in, no_stretch, stretch_at, ends_at, stretches_in, roster_sound}
+use Rattle.trace.proofs.Sweeps.{every-all, every-same, get_or-sweep, get_or-sweep-past, sweep-same, records-rise, replicate-same}
+use Rattle.plants.specs.Plants.{place, region_of, has_region, shares_region, regions_shared}
+use Rattle.plants.specs.Rosters.{start_of, count_of, entries, stretch_of, held}
+use Rattle.plants.specs.Rosters.{place_at, places_in, no_stretch, stretch_at, ends_at, stretches_in, roster_sound}
 use Rattle.plants.specs.declared.Stretch.{Stretch}
 use Rattle.plants.proofs.Soundness.{counts-in, sound-by}
 use Rattle.chains.specs.declared.Chains.{Chains}
 use Rattle.chains.specs.declared.visits.Walked.{Walked}
 use Rattle.chains.specs.Chains.{members_of, all_members, places_of, plant_of}
-use Rattle.chains.specs.Rules.{indices_in, met_once, Walkable}
+use Rattle.chains.specs.Rules.{indices_in, met_once, Known, Walkable}
 use Rattle.chains.specs.Layouts.{start_at, count_at, stretch_laid, flat_of, roster_of, SideBySide}
 use Rattle.chains.specs.Walks.{unwalked, walked, stretch_walked, stretches_walked, roster_from}
 use Rattle.chains.proofs.Steps.{chain-end, Units}
 use Rattle.chains.proofs.Members.{once-length}
+use Rattle.chains.proofs.Regions.{regions-laid}
 use Rattle.chains.proofs.Walks.{all-units, walk-met, walk-list}
 
 -- ---- lists
@@ -103,6 +105,13 @@ module _ (c : Chains) (walkable : Walkable c) where
   unfolding stretch_of roster_of flat_of all_members start_at count_at
   stretch-laid j l = rw (start-laid j l, count-laid j l) (places-between (members_of c) c.aggregates j l _)
 
+  -- the test of regions reads no more of the members
+  pub shared-laid : regions_shared (held (roster_of c)) ≡ regions_shared (plant_of c)
+  unfolding regions_shared shares_region roster_of plant_of places_of
+  shared-laid =
+      every-same (shares_region (held (roster_of c))) (shares_region (plant_of c)) c.aggregates
+      (λ j l. ap (list_all (has_region (plant_of c) (region_of (plant_of c) (c.units + j)))) (stretch-laid j l))
+
   -- an aggregate past the count has no head, and no members
   module _ (headless : (j : ℕ) → c.aggregates ≤ j → get_or c.heads j 0 ≡ 0) where
     stretch-places : (j : ℕ) → (j < c.aggregates) ⊎ (c.aggregates ≤ j) → stretch_of (roster_of c) j ≡ places_of c j
@@ -165,9 +174,10 @@ module _ (c : Chains) (walkable : Walkable c) where
         every-all (ends_at (roster_of c).stretches) c.aggregates
         (λ j l. rw (laid j l) (le-leb (start_at c j + count_at c j) 64 (start-few j l)))
 
-    pub laid-sound : 1 ≤ c.units → kinds_known c.kinds c.units ≡ true → roster_sound (roster_of c) ≡ true
+    pub laid-sound : Known c → roster_sound (roster_of c) ≡ true
     unfolding roster_of
-    laid-sound least kinds =
-        sound-by (roster_of c) (counts-in c.units c.aggregates least walkable.units walkable.aggregates) kinds
-        (places-inside c walkable.inside least)
+    laid-sound known =
+        sound-by (roster_of c) (counts-in c.units c.aggregates known.least walkable.units walkable.aggregates) known.kinds
+        (regions-laid c walkable known.regions)
+        (places-inside c walkable.inside known.least)
         stretches-inside

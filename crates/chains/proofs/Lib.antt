@@ -3,4 +3,5 @@ pub mod Indices
 pub mod Steps
 pub mod Members
 pub mod Walks
+pub mod Regions
 pub mod Layouts

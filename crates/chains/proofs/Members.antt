@@ -2,8 +2,8 @@
 -- twice can be. Assumes nothing.
 use mathlib.Core.Path.{◌≡◌, refl}
 use mathlib.Core.Logic.{⊎_elim}
-use mathlib.Core.Bool.{Bool, true, false, cond}
-use mathlib.Core.List.{List, [], ◌∷◌}
+use mathlib.Core.Bool.{Bool, true, false, cond, false≢true}
+use mathlib.Core.List.{List, [], ◌∷◌, map}
 use Prim.Native.Nat.{ℕ, zero, suc, ◌+◌, ◌≤◌, ◌<◌}
 use native.Mathlib.Nat.{eq-or-lt_of_le, le_of_suc-le-suc}
 use native.Mathlib.Omega.{arith}
@@ -12,10 +12,13 @@ use lib.Dec.{eqb}
 use lib.ListN.{length}
 use Rattle.std.proofs.lemmas.Bool.{cases_lt}
 use Rattle.trace.specs.Sweeps.{every, records}
+use Rattle.std.specs.List.{list_all}
 use Rattle.trace.proofs.Sweeps.{every-at}
+use Rattle.trace.proofs.Tests.{and_l, and_r, and_both, or_cases}
+use Rattle.plants.specs.Plants.{place, elem}
 use Rattle.chains.specs.Chains.{times_in}
 use Rattle.chains.specs.Rules.{once_at}
-use Rattle.chains.proofs.Steps.{times-append, times_none, Units}
+use Rattle.chains.proofs.Steps.{times-append, times-same, times_none, Units}
 
 -- ---- lists one after another
 
@@ -122,3 +125,36 @@ once-length n xs u e =
     let t = total-times n xs u in
     let m = total-most (λ i. times_in (suc i) xs) n (λ i l. leb-true (times_in (suc i) xs) 1 (every-at (once_at xs) n e i l)) in
     omega arith
+
+-- ---- a test of the places of a list of units, at each unit that stands there
+module _ (p : ℕ → Bool) (n : ℕ) where
+  pub all-each : (units : List ℕ) → Units n units → list_all p (map place units) ≡ true → (i : ℕ) → 1 ≤ times_in (suc i) units → p i ≡ true
+  unfolding Units times_in
+  all-each [] u e i m = absurd (omega arith)
+  all-each (zero ∷ units) u e i m = absurd (omega (arith, u.0.0))
+  all-each (suc k ∷ units) u e i m =
+      go (eqb (suc k) (suc i)) refl m (all-each units u.1 (and_r (p k) (list_all p (map place units)) e) i)
+    where
+      go : (t : Bool) → eqb (suc k) (suc i) ≡ t → 1 ≤ cond t 1 0 + times_in (suc i) units → (1 ≤ times_in (suc i) units → p i ≡ true) → p i ≡ true
+      go true q l rest =
+          let same : i ≡ k = omega (arith, eqb-true (suc k) (suc i) q) in rw same (and_l (p k) (list_all p (map place units)) e)
+      go false q l rest = rest (omega arith)
+
+  pub each-all : (units : List ℕ) → Units n units → ((i : ℕ) → 1 ≤ times_in (suc i) units → p i ≡ true) → list_all p (map place units) ≡ true
+  unfolding Units times_in
+  each-all [] u h = refl
+  each-all (zero ∷ units) u h = absurd (omega (arith, u.0.0))
+  each-all (suc k ∷ units) u h =
+      and_both (p k) (list_all p (map place units)) (h k (omega (arith, times-same (suc k) units)))
+      (each-all units u.1 (λ i m. h i (omega arith)))
+
+-- whoever's place stands among theirs is one of them
+pub elem-times : (n : ℕ) (units : List ℕ) → Units n units → (i : ℕ) → elem i (map place units) ≡ true → 1 ≤ times_in (suc i) units
+unfolding Units times_in
+elem-times n [] u i e = absurd (false≢true e)
+elem-times n (zero ∷ units) u i e = absurd (omega (arith, u.0.0))
+elem-times n (suc k ∷ units) u i e =
+    ⊎_elim
+    (λ q. rw (eqb-true i k q) (omega (arith, times-same (suc k) units)))
+    (λ q. omega (arith, elem-times n units u.1 i q))
+    (or_cases (eqb i k) (elem i (map place units)) e)

@@ -1,5 +1,5 @@
 -- An aggregate is the chain from its head through next; 0 ends it (01, "The register").
-use Rattle.std.specs.Prelude.{Bool, false, cond, List, [], ◌∷◌, map, ℕ, zero, suc, ◌+◌, leb, eqb, get_or, replicate}
+use Rattle.std.specs.Prelude.{Bool, false, cond, List, [], ◌∷◌, map, ℕ, zero, suc, ◌+◌, ◌-◌, leb, ltb, eqb, get_or, replicate}
 use Rattle.trace.specs.Sweeps.{sweep, records}
 use Rattle.plants.specs.Plants.{Plant, place}
 use Rattle.chains.specs.declared.Chains.{Chains}
@@ -38,6 +38,18 @@ chained_of c = sweep (met_at c) c.units (replicate 64 false)
 unfoldable pub places_of : Chains → ℕ → List ℕ
 places_of c j = map place (members_of c j)
 
+-- the place of the unit whose region the point at a place has: a unit's own, or an aggregate's first member, whose region each other one has
+-- ("All members of a chain share a region", 02, 2026-09; refusal 37)
+abbrev pub region_unit : Chains → ℕ → ℕ
+region_unit c i = cond (ltb i c.units) i (place (get_or c.heads (i - c.units) 0))
+
+unfoldable pub region_at : Chains → ℕ → ℕ
+region_at c i = get_or c.regions (region_unit c i) 0
+
+-- of each point, with zeros past them
+unfoldable pub point_regions : Chains → List ℕ
+point_regions c = sweep (region_at c) (c.units + c.aggregates) (replicate 80 0)
+
 -- the plant that the chains give: what the rules say of a register is said of this one
 unfoldable pub plant_of : Chains → Plant
 plant_of c =
@@ -48,5 +60,6 @@ plant_of c =
       large = c.large;
       kinds = c.kinds;
       chained = chained_of c;
+      regions = point_regions c;
       members = places_of c;
     }

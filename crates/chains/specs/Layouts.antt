@@ -6,7 +6,7 @@ use Rattle.plants.specs.Plants.{place}
 use Rattle.plants.specs.Rosters.{no_stretch, start_of, count_of, stretch_of, held}
 use Rattle.plants.specs.declared.Roster.{Roster}
 use Rattle.plants.specs.declared.Stretch.{Stretch}
-use Rattle.chains.specs.Chains.{members_of, all_members, chained_of, plant_of}
+use Rattle.chains.specs.Chains.{members_of, all_members, chained_of, point_regions, plant_of}
 use Rattle.chains.specs.declared.Chains.{Chains}
 
 -- a stretch starts where those of the aggregates before it end
@@ -23,7 +23,7 @@ stretch_laid c j = record { start = start_at c j; count = count_at c j }
 unfoldable pub flat_of : Chains → List ℕ
 flat_of c = map place (all_members c) ++ drop (length (all_members c)) (replicate 64 0)
 
--- the chains' own counts, lengths and kinds, beside who stands in a chain and where
+-- the chains' own counts, lengths, kinds and regions, beside who stands in a chain and where
 abbrev pub roster_with : Chains → List Bool → List ℕ → List Stretch → Roster
 roster_with c chained members stretches =
     record {
@@ -33,6 +33,7 @@ roster_with c chained members stretches =
       large = c.large;
       kinds = c.kinds;
       chained = chained;
+      regions = point_regions c;
       members = members;
       stretches = stretches;
     }

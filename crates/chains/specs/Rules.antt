@@ -3,6 +3,7 @@ use Rattle.std.specs.Prelude.{◌≡◌, Bool, true, false, ◌&&◌, ◌||◌, 
 use Rattle.kinds.specs.declared.Kind.{Kind}
 use Rattle.kinds.specs.Kinds.{is_semi_scheduled}
 use Rattle.trace.specs.Sweeps.{every}
+use Rattle.plants.specs.Rosters.{kinds_known, regions_known}
 use Rattle.chains.specs.Chains.{all_members, times_in, chained_of}
 use Rattle.chains.specs.declared.Chains.{Chains}
 
@@ -43,6 +44,12 @@ scheduled_at chained kinds i = not (get_or chained i false && is_semi_scheduled 
 
 unfoldable pub members_scheduled : Chains → Bool
 members_scheduled c = every (scheduled_at (chained_of c) c.kinds) c.units
+
+-- what a register's counts and fields are tested for before its chains: at least one unit, and every kind and region known
+pub record Known (c : Chains) : Type 0 where
+  pub least : 1 ≤ c.units
+  pub kinds : kinds_known c.kinds c.units ≡ true
+  pub regions : regions_known c.regions c.units ≡ true
 
 -- counts and indices in range, so that the chains can be followed
 pub record Walkable (c : Chains) : Type 0 where

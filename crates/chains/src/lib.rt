@@ -4,16 +4,18 @@
 
 pub mod visits;
 
-ghost use Rattle.std.specs.Prelude.{◌≡◌, ◌≤◌};
+ghost use Rattle.std.specs.Prelude.{◌≡◌, ◌+◌, ◌≤◌, cond, ltb};
 ghost use Rattle.std.specs.List.{list_all};
 ghost use Rattle.trace.specs.Sweeps.{every};
+ghost use Rattle.chains.specs.Chains.{region_at, point_regions};
 ghost use Rattle.chains.specs.Rules.{next_in, head_in, ends_at, scheduled_at, indices_in, Walkable};
 
 use kinds::Kind;
 use plants::Lengths;
+use std::array;
 
-// A unit's index is its number less one; 0 ends a chain, as 01 has it. Entries past the counts are no kind and 0. `kinds` and `next` stand side by side:
-// the rules and a roster speak of each alone, and pairs of them would have to be taken apart there. A bound of the counts is
+// A unit's index is its number less one; 0 ends a chain, as 01 has it. Entries past the counts are no kind and 0. `kinds`, `regions` and `next` stand
+// side by side: the rules and a roster speak of each alone, and triples of them would have to be taken apart there. A bound of the counts is
 // asked where it is needed and is no ghost field: `fields_of`, a definition of `register`, speaks of the chains of any bytes.
 #[derive(Clone, Copy)]
 pub struct Chains {
@@ -22,6 +24,7 @@ pub struct Chains {
     pub small: Lengths,
     pub large: Lengths,
     pub kinds: [Option<Kind>; 64],
+    pub regions: [u8; 64],
     pub next: [u8; 64],
     pub heads: [u8; 16],
 }
@@ -65,6 +68,31 @@ pub fn indices_in(chains: Chains) -> bool
 {
     nexts_in(&chains.next[..chains.units], chains.units)
         && heads_in(&chains.heads[..chains.aggregates], chains.units)
+}
+
+impl ChainsInRange {
+    // The region of the point at a place: a unit's own, or that of an aggregate's first member; 0 past the points.
+    #[tactic(auto, using(crate::proofs::Regions::read))]
+    fn region(self, i: usize) -> u8
+        ensures { result ≡ cond (ltb i (self.chains.units + self.chains.aggregates)) (region_at self.chains i) 0 }
+    {
+        let chains = self.chains;
+        if i < chains.units {
+            return chains.regions[i];
+        }
+        if i < chains.units + chains.aggregates {
+            let head = chains.heads[i - chains.units];
+            return chains.regions[usize::from(head) - 1];
+        }
+        0
+    }
+
+    // The region of each point.
+    pub fn point_regions(self) -> [u8; 80]
+        ensures { result ≡ point_regions self.chains }
+    {
+        array::from_fn(|i| self.region(i))
+    }
 }
 
 // Every unit that no chain met has next 0.

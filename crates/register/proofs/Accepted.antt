@@ -1,36 +1,40 @@
 -- What an accepted register gives: the roster that it loads, and the laws of its chains. Assumes nothing.
 use mathlib.Core.Path.{◌≡◌, refl, sym, ap, ◌∙◌}
-use mathlib.Core.Logic.{◌⊎◌, inl, inr}
+use mathlib.Core.Logic.{◌⊎◌, inl, inr, ⊎_elim}
 use mathlib.Core.Bool.{Bool, true, false, false≢true, ◌&&◌, not}
 use mathlib.Core.List.{List}
-use Prim.Native.Nat.{ℕ, zero, suc, ◌+◌, ◌≤◌, ◌<◌}
+use Prim.Native.Nat.{ℕ, zero, suc, ◌+◌, ◌*◌, ◌≤◌, ◌<◌}
 use native.Mathlib.Omega.{arith}
-use borrow.Author.Tests.{leb-true, le-leb}
+use borrow.Author.Tests.{leb-true, le-leb, eqb-true, eq-eqb}
 use lib.Dec.{leb}
 use lib.ListN.{length, get_or, replicate, length-map, length-replicate}
 use Rattle.std.proofs.lemmas.Bool.{cases_lt}
 use Rattle.trace.specs.Sweeps.{sweep, records}
 use Rattle.trace.proofs.Sweeps.{every-at, every-all, length-sweep, get_or-sweep, get_or-sweep-past, replicate-same}
 use Rattle.trace.proofs.Tests.{and_l, and_r}
-use Rattle.plants.specs.Rosters.{counts_in, kinds_known, roster_sound}
+use Rattle.plants.specs.Plants.{place, elem, region_of, has_region, shares_region, regions_shared}
+use Rattle.plants.specs.Rosters.{counts_in, kinds_known, regions_known, roster_sound}
 use Rattle.plants.proofs.Soundness.{counts-least, counts-units, counts-aggregates}
 use Rattle.chains.specs.declared.Chains.{Chains}
-use Rattle.chains.specs.Chains.{chain, Chain, members_of, all_members, times_in, met_at, chained_of, places_of}
-use Rattle.chains.specs.Rules.{indices_in, once_at, met_once, rest_ends, scheduled_at, members_scheduled, Walkable}
+use Rattle.chains.specs.Chains.{chain, Chain, members_of, all_members, times_in, met_at, chained_of, places_of, plant_of}
+use Rattle.chains.specs.Rules.{indices_in, once_at, met_once, rest_ends, scheduled_at, members_scheduled, Known, Walkable}
 use Rattle.chains.specs.Layouts.{roster_of, SideBySide}
 use Rattle.chains.proofs.Indices.{head-least}
-use Rattle.chains.proofs.Steps.{chain-whole, chain_same, units_in}
+use Rattle.chains.proofs.Steps.{chain-end, chain-whole, chain_same, times-same, units_in}
 use Rattle.chains.proofs.Walks.{members-units, all-units}
-use Rattle.chains.proofs.Members.{times-one, times-two, times-somewhere, times-at-most, once-length}
+use Rattle.chains.proofs.Members.{all-each, each-all, elem-times, times-one, times-two, times-somewhere, times-at-most, once-length}
+use Rattle.chains.proofs.Regions.{unit-region, aggregate-region, regions-few}
 use Rattle.chains.proofs.Layouts.{side_by_side, laid-sound}
 use Rattle.register.specs.declared.RegisterRefusal.{RegisterRefusal}
-use Rattle.register.specs.declared.RegisterRefusal.TheVariants.{Length, Counts, RunLengths, Record, Index, MetTwice, Unmet, SemiScheduledMember}
+use Rattle.register.specs.declared.RegisterRefusal.TheVariants.{Length, Counts, RunLengths, Record, Index, MetTwice, Unmet}
+use Rattle.register.specs.declared.RegisterRefusal.TheVariants.{SemiScheduledMember, AcrossRegions}
 use Rattle.std.specs.Prelude.{Option, Some, None, Result, Ok}
 use Rattle.kinds.specs.declared.Kind.{Kind}
 use Rattle.kinds.specs.declared.Kind.TheVariants.{Generating, Load, Bidirectional, SemiScheduled}
 use Rattle.kinds.specs.Kinds.{is_semi_scheduled}
 use Rattle.register.specs.declared.Registered.{Registered}
-use Rattle.register.specs.Fields.{unit_count, aggregate_count, lengths_at, field_at, heads_place, kind_in, kinds_of, nexts_of, heads_of, fields_of}
+use Rattle.register.specs.Fields.{unit_count, aggregate_count, lengths_at, field_at, heads_place, kind_in, kinds_of, nexts_of, heads_of}
+use Rattle.register.specs.Fields.{regions_of, fields_of}
 use Rattle.register.specs.Rules.{long_enough, whole_length, rising, header_spare, units_spare, heads_spare}
 use Rattle.register.specs.Registers.{unless, accepted_as, lengths_rise, fields_known, chained_from, records_from, registered_of}
 
@@ -46,6 +50,7 @@ pub record Passed (bytes : List ℕ) : Type 0 where
   pub once : met_once (fields_of bytes) ≡ true
   pub ends : rest_ends (fields_of bytes) ≡ true
   pub scheduled : members_scheduled (fields_of bytes) ≡ true
+  pub shared : regions_shared (plant_of (fields_of bytes)) ≡ true
 
 unless-passed : (t : Bool) (k : RegisterRefusal) (r : Registered) (rest : Result Registered RegisterRefusal) → unless t k rest ≡ Ok r
     → (t ≡ true) × (rest ≡ Ok r)
@@ -68,6 +73,7 @@ module _ (bytes : List ℕ) (r : Registered) (accepted : registered_of bytes ≡
       let once = unless-passed (met_once c) MetTwice r _ inside.1 in
       let ends = unless-passed (rest_ends c) Unmet r _ once.1 in
       let scheduled = unless-passed (members_scheduled c) SemiScheduledMember r _ ends.1 in
+      let shared = unless-passed (regions_shared (plant_of c)) AcrossRegions r _ scheduled.1 in
       record {
         long = long.0;
         counts = counts.0;
@@ -78,21 +84,22 @@ module _ (bytes : List ℕ) (r : Registered) (accepted : registered_of bytes ≡
         once = once.0;
         ends = ends.0;
         scheduled = scheduled.0;
+        shared = shared.0;
       }
 
 pub passed-accepted : (bytes : List ℕ) → Passed bytes → registered_of bytes ≡ Ok (accepted_as (fields_of bytes))
 unfolding registered_of records_from chained_from
-passed-accepted bytes q = rw (q.long, q.counts, q.whole, q.rise, q.known, q.inside, q.once, q.ends, q.scheduled)
+passed-accepted bytes q = rw (q.long, q.counts, q.whole, q.rise, q.known, q.inside, q.once, q.ends, q.scheduled, q.shared)
 
 -- ---- the chains of an accepted register
 
 pub record Loaded (c : Chains) : Type 0 where
   pub walkable : Walkable c
-  pub least : 1 ≤ c.units
-  pub known : kinds_known c.kinds c.units ≡ true
+  pub known : Known c
   pub once : met_once c ≡ true
   pub ends : rest_ends c ≡ true
   pub scheduled : members_scheduled c ≡ true
+  pub shared : regions_shared (plant_of c) ≡ true
   pub small : rising c.small ≡ true
   pub large : rising c.large ≡ true
   pub kinds : length c.kinds ≡ 64
@@ -104,12 +111,14 @@ length-swept : {A : Type 0} (f : ℕ → A) (k n : ℕ) (d : A) → length (swee
 length-swept f k n d = length-sweep f k (replicate n d) ∙ length-replicate n d
 
 passed-loaded : (bytes : List ℕ) → Passed bytes → Loaded (fields_of bytes)
-unfolding fields_of kinds_of nexts_of heads_of lengths_rise fields_known
+unfolding fields_of kinds_of regions_of nexts_of heads_of lengths_rise fields_known
 passed-loaded bytes q =
     let units = unit_count bytes in
     let aggregates = aggregate_count bytes in
     let kinds = kinds_known (kinds_of bytes) units in
-    let fields = and_l (header_spare bytes && kinds) (units_spare bytes && heads_spare bytes) q.known in
+    let regions = regions_known (regions_of bytes) units in
+    let fields = and_l (header_spare bytes && (kinds && regions)) (units_spare bytes && heads_spare bytes) q.known in
+    let known = and_r (header_spare bytes) (kinds && regions) fields in
     record {
       walkable =
           record {
@@ -117,11 +126,16 @@ passed-loaded bytes q =
             aggregates = counts-aggregates units aggregates q.counts;
             inside = q.inside;
           };
-      least = counts-least units aggregates q.counts;
-      known = and_r (header_spare bytes) kinds fields;
+      known =
+          record {
+            least = counts-least units aggregates q.counts;
+            kinds = and_l kinds regions known;
+            regions = and_r kinds regions known;
+          };
       once = q.once;
       ends = q.ends;
       scheduled = q.scheduled;
+      shared = q.shared;
       small = and_l (rising (lengths_at bytes 2)) (rising (lengths_at bytes 5)) q.rise;
       large = and_r (rising (lengths_at bytes 2)) (rising (lengths_at bytes 5)) q.rise;
       kinds = length-swept (kind_in bytes) units 64 None;
@@ -152,7 +166,17 @@ module _ (bytes : List ℕ) (r : Registered) (accepted : registered_of bytes ≡
   pub accepted-sound : roster_sound r.roster ≡ true
   accepted-sound =
       let l = accepted-loaded in
-      rw accepted-roster (laid-sound (fields_of bytes) l.walkable l.once l.least l.known)
+      rw accepted-roster (laid-sound (fields_of bytes) l.walkable l.once l.known)
+
+  -- a unit's region is byte 2 of its record
+  pub accepted-region : (i : ℕ) → i < unit_count bytes → region_of (plant_of (fields_of bytes)) i ≡ get_or bytes (16 + 4 * i + 2) 0
+  unfolding fields_of regions_of
+  accepted-region i l =
+      let place : 18 + 4 * i ≡ 16 + 4 * i + 2 = omega arith in
+      unit-region (fields_of bytes) accepted-loaded.walkable i l
+      ∙ get_or-sweep (field_at bytes 18) (unit_count bytes) (replicate 64 0) 0 i l
+      (omega (arith, length-replicate {A = ℕ} 64 0, accepted-loaded.walkable.units))
+      ∙ ap (λ (n : ℕ). get_or bytes n 0) place
 
 -- ---- refusal 6, whatever the order of the chains: no unit twice in a chain, and none in two
 
@@ -255,6 +279,47 @@ module _ (c : Chains) (walkable : Walkable c) where
           let found = marked-member c walkable i l q in
           absurd (s i found.0 l found.1.0 found.1.1 (semi_scheduled-is _ e))
 
+-- ---- refusal 37, whichever member is the first: any two members of a chain have one region
+
+abbrev pub SharedRegion : Chains → Type 0
+SharedRegion c = (j i k : ℕ) → j < c.aggregates → 1 ≤ times_in (suc i) (members_of c j) → 1 ≤ times_in (suc k) (members_of c j)
+    → get_or c.regions i 0 ≡ get_or c.regions k 0
+
+-- the region of an aggregate's point
+abbrev own : Chains → ℕ → ℕ
+own c j = region_of (plant_of c) ((plant_of c).units + j)
+
+module _ (c : Chains) (walkable : Walkable c) where
+  first-member : (j : ℕ) → j < c.aggregates → 1 ≤ times_in (suc (place (get_or c.heads j 0))) (members_of c j)
+  unfolding members_of chain
+  first-member j l = go (get_or c.heads j 0) (head-least c walkable.inside j l)
+    where
+      go : (head : ℕ) → 1 ≤ head → 1 ≤ times_in (suc (place head)) (chain c.next 65 head)
+      go zero h = absurd (omega arith)
+      go (suc i) h = omega (arith, times-same (suc i) (chain c.next 64 (get_or c.next i 0)))
+
+  module _ (j : ℕ) (l : j < c.aggregates) where
+    within : (i : ℕ) → 1 ≤ times_in (suc i) (members_of c j) → i < c.units
+    within i m = let u = units_in c.units (members_of c j) (members-units c walkable.inside j l) (suc i) m in omega (arith, u.1)
+
+    has-own : regions_shared (plant_of c) ≡ true → (i : ℕ) → 1 ≤ times_in (suc i) (members_of c j) → get_or c.regions i 0 ≡ own c j
+    unfolding regions_shared shares_region plant_of places_of
+    has-own e i m =
+        let each = every-at (shares_region (plant_of c)) c.aggregates e j l in
+        let test = all-each (has_region (plant_of c) (own c j)) c.units (members_of c j) (members-units c walkable.inside j l) each i m in
+        sym (unit-region c walkable i (within i m)) ∙ eqb-true _ _ test
+
+  pub rule-shared : regions_shared (plant_of c) ≡ true → SharedRegion c
+  rule-shared e j i k l a b = has-own j l e i a ∙ sym (has-own j l e k b)
+
+  pub shared-rule : SharedRegion c → regions_shared (plant_of c) ≡ true
+  unfolding regions_shared shares_region plant_of places_of
+  shared-rule s =
+      every-all (shares_region (plant_of c)) c.aggregates
+      (λ j l. each-all (has_region (plant_of c) (own c j)) c.units (members_of c j) (members-units c walkable.inside j l)
+      (λ i m. eq-eqb _ _
+      (unit-region c walkable i (within j l i m) ∙ s j i (place (get_or c.heads j 0)) l m (first-member j l) ∙ sym (aggregate-region c walkable j l))))
+
 -- ---- loaded chains
 
 module _ (c : Chains) (loaded : Loaded c) where
@@ -266,6 +331,22 @@ module _ (c : Chains) (loaded : Loaded c) where
 
   pub loaded-scheduled : Scheduled c
   loaded-scheduled = rule-scheduled c loaded.walkable loaded.scheduled
+
+  pub loaded-shared : SharedRegion c
+  loaded-shared = rule-shared c loaded.walkable loaded.shared
+
+  -- an aggregate's region is its members'; past the aggregates there are none
+  pub member-region : (j i : ℕ) → elem i ((plant_of c).members j) ≡ true → region_of (plant_of c) i ≡ region_of (plant_of c) ((plant_of c).units + j)
+  unfolding plant_of places_of members_of
+  member-region j i e =
+      ⊎_elim
+      (λ l. let m = elem-times c.units (members_of c j) (members-units c loaded.walkable.inside j l) i e in
+      unit-region c loaded.walkable i (within c loaded.walkable j l i m) ∙ has-own c loaded.walkable j l loaded.shared i m)
+      (λ l. absurd (false≢true (rw (loaded.headless j l, chain-end c.next 65) at e)))
+      (cases_lt j c.aggregates)
+
+  pub region-few : (i : ℕ) → region_of (plant_of c) i ≤ 4
+  region-few i = regions-few c loaded.walkable loaded.known.regions i
 
   module _ (j : ℕ) (l : j < c.aggregates) where
     pub member-unit : (unit : ℕ) → 1 ≤ times_in unit (members_of c j) → (1 ≤ unit) × (unit ≤ c.units)

@@ -9,7 +9,7 @@ use Rattle.std.specs.List.{list_all}
 use Rattle.kinds.specs.Kinds.{kind_of}
 use Rattle.trace.specs.Sweeps.{every, sweep}
 use Rattle.trace.proofs.Sweeps.{every_list, every_take, sweep-same}
-use Rattle.register.specs.Fields.{unit_count, aggregate_count, lengths_at, kinds_of, nexts_of, heads_of, kind_in, field_at, heads_place}
+use Rattle.register.specs.Fields.{unit_count, aggregate_count, lengths_at, kinds_of, regions_of, nexts_of, heads_of, kind_in, field_at, heads_place}
 use Rattle.register.specs.Rules.{spare_at, header_spare, units_spare, heads_spare}
 use Rattle.register.specs.Headers.{Headed, records_in, is_zero}
 
@@ -88,12 +88,12 @@ module _ (header records : List ℕ) (headed : Headed header records) where
         let place : 16 + (4 * i + k) ≡ 16 + k + 4 * i = omega arith in
         rw unit-at (byte-at i (omega arith) k small ∙ ap (λ (n : ℕ). get_or bytes n 0) place)
 
-    unit-spare : list_all is_zero (take 2 (drop 2 (get_or (take units (records_in records)) i []))) ≡ spare_at bytes 18 2 i
+    unit-spare : list_all is_zero (take 1 (drop 3 (get_or (take units (records_in records)) i []))) ≡ spare_at bytes 19 1 i
     unit-spare =
         rw unit-at
-        (zeros-at (get_or (records_in records) i []) 2 2 (λ k. get_or bytes (18 + 4 * i + k) 0) (le_of_eq (sym (record-length i (omega arith))))
-        (λ k l. let place : 16 + (4 * i + (2 + k)) ≡ 18 + 4 * i + k = omega arith in
-        byte-at i (omega arith) (2 + k) (omega arith) ∙ ap (λ (n : ℕ). get_or bytes n 0) place))
+        (zeros-at (get_or (records_in records) i []) 3 1 (λ k. get_or bytes (19 + 4 * i + k) 0) (le_of_eq (sym (record-length i (omega arith))))
+        (λ k l. let place : 16 + (4 * i + (3 + k)) ≡ 19 + 4 * i + k = omega arith in
+        byte-at i (omega arith) (3 + k) (omega arith) ∙ ap (λ (n : ℕ). get_or bytes n 0) place))
 
   module _ (i : ℕ) (h : i < aggregates) where
     head-at : get_or (drop units (records_in records)) i [] ≡ get_or (records_in records) (units + i) []
@@ -118,6 +118,10 @@ module _ (header records : List ℕ) (headed : Headed header records) where
   unfolding kinds_of
   kinds-in = rw units-in (sweep-same _ (kind_in bytes) units (replicate 64 None) (λ i l. ap kind_of (unit-byte i l 0 (omega arith))))
 
+  pub regions-in : sweep (λ i. get_or (get_or (take units (records_in records)) i []) 2 0) units (replicate 64 0) ≡ regions_of bytes
+  unfolding regions_of
+  regions-in = rw units-in (sweep-same _ (field_at bytes 18) units (replicate 64 0) (λ i l. unit-byte i l 2 (omega arith)))
+
   pub nexts-in : sweep (λ i. get_or (get_or (take units (records_in records)) i []) 1 0) units (replicate 64 0) ≡ nexts_of bytes
   unfolding nexts_of
   nexts-in = rw units-in (sweep-same _ (field_at bytes 17) units (replicate 64 0) (λ i l. unit-byte i l 1 (omega arith)))
@@ -126,10 +130,10 @@ module _ (header records : List ℕ) (headed : Headed header records) where
   unfolding heads_of
   heads-in = rw aggregates-in (sweep-same _ (field_at bytes (heads_place bytes)) aggregates (replicate 16 0) (λ i l. head-byte i l))
 
-  units-zeros : list_all (λ (r : List ℕ). list_all is_zero (take 2 (drop 2 r))) (take units (records_in records)) ≡ units_spare bytes
+  units-zeros : list_all (λ (r : List ℕ). list_all is_zero (take 1 (drop 3 r))) (take units (records_in records)) ≡ units_spare bytes
   units-zeros =
       rw units-in
-      (every_list (λ (r : List ℕ). list_all is_zero (take 2 (drop 2 r))) (spare_at bytes 18 2) (take units (records_in records)) [] units
+      (every_list (λ (r : List ℕ). list_all is_zero (take 1 (drop 3 r))) (spare_at bytes 19 1) (take units (records_in records)) [] units
       (length-take-le units (records_in records) (omega (arith, records-many))) unit-spare)
 
   heads-zeros : list_all (λ (r : List ℕ). list_all is_zero (take 3 (drop 1 r))) (drop units (records_in records)) ≡ heads_spare bytes
@@ -141,6 +145,6 @@ module _ (header records : List ℕ) (headed : Headed header records) where
 
   pub spares-in : (us hs : List (List ℕ)) → us ≡ take units (records_in records) → hs ≡ drop units (records_in records)
       → (list_all is_zero (take 8 (drop 8 header)) ≡ header_spare bytes)
-      × (list_all (λ (r : List ℕ). list_all is_zero (take 2 (drop 2 r))) us ≡ units_spare bytes)
+      × (list_all (λ (r : List ℕ). list_all is_zero (take 1 (drop 3 r))) us ≡ units_spare bytes)
       × (list_all (λ (r : List ℕ). list_all is_zero (take 3 (drop 1 r))) hs ≡ heads_spare bytes)
   spares-in us hs u h = (header-zeros, rw u units-zeros, rw h heads-zeros)

@@ -9,22 +9,26 @@ use native.Mathlib.Omega.{arith}
 use lib.ListN.{length, get_or, take, drop}
 use Rattle.std.proofs.lemmas.List.{get_or-take, length-take-le, take-append-drop}
 use Rattle.trace.specs.Sweeps.{every}
+use Rattle.trace.proofs.Tests.{and_l, and_r}
 use Rattle.plants.specs.declared.Lengths.{Lengths}
 use Rattle.plants.specs.declared.Roster.{Roster}
-use Rattle.plants.specs.Rosters.{counts_in, kinds_known}
+use Rattle.plants.specs.Plants.{regions_shared}
+use Rattle.plants.specs.Rosters.{held, counts_in, kinds_known, regions_known, roster_sound}
 use Rattle.chains.specs.declared.Chains.{Chains}
 use Rattle.chains.specs.declared.visits.Walked.{Walked}
-use Rattle.chains.specs.Chains.{all_members, chained_of}
-use Rattle.chains.specs.Rules.{indices_in, met_once, ends_at, rest_ends, scheduled_at, members_scheduled, Walkable}
+use Rattle.chains.specs.Chains.{all_members, chained_of, plant_of}
+use Rattle.chains.specs.Rules.{indices_in, met_once, ends_at, rest_ends, scheduled_at, members_scheduled, Known, Walkable}
+use Rattle.chains.specs.Layouts.{roster_of}
 use Rattle.chains.specs.Walks.{unwalked, walked, stretches_walked, roster_from}
 use Rattle.chains.proofs.Walks.{walk-twice, walk-met, walk_steps}
-use Rattle.chains.proofs.Layouts.{laid_out}
+use Rattle.chains.proofs.Layouts.{shared-laid, laid_out, laid-sound}
 use Rattle.register.specs.declared.Registered.{Registered}
 use Rattle.register.specs.declared.RegisterRefusal.{RegisterRefusal}
-use Rattle.register.specs.declared.RegisterRefusal.TheVariants.{Length, Counts, RunLengths, Record, Index, MetTwice, Unmet, SemiScheduledMember}
+use Rattle.register.specs.declared.RegisterRefusal.TheVariants.{Length, Counts, RunLengths, Record, Index, MetTwice, Unmet}
+use Rattle.register.specs.declared.RegisterRefusal.TheVariants.{SemiScheduledMember, AcrossRegions}
 use Rattle.std.specs.Prelude.{Option, Result, Ok, Err}
 use Rattle.kinds.specs.declared.Kind.{Kind}
-use Rattle.register.specs.Fields.{unit_count, aggregate_count, lengths_at, kinds_of, nexts_of, heads_of, fields_of}
+use Rattle.register.specs.Fields.{unit_count, aggregate_count, lengths_at, kinds_of, regions_of, nexts_of, heads_of, fields_of}
 use Rattle.register.specs.Rules.{whole_length, header_spare, units_spare, heads_spare}
 use Rattle.register.specs.Registers.{accepted_as, lengths_rise, fields_known, chained_from, records_from, registered_of, Reads}
 use Rattle.register.specs.Headers.{Headed}
@@ -107,20 +111,31 @@ module _ (bytes header records : List ℕ)
 -- ---- records
 
 module _ (header records : List ℕ) (headed : Headed header records) where
-  pub fields_read : (units aggregates : ℕ) (small large : Lengths) (kinds : List (Option Kind)) (next heads : List ℕ) → units ≡ unit_count header
+  pub fields_read : (units aggregates : ℕ) (small large : Lengths) (kinds : List (Option Kind)) (regions next heads : List ℕ)
+      → units ≡ unit_count header
       → aggregates ≡ aggregate_count header → small ≡ lengths_at header 2 → large ≡ lengths_at header 5 → kinds ≡ kinds_of (header ++ records)
+      → regions ≡ regions_of (header ++ records)
       → next ≡ nexts_of (header ++ records)
       → heads ≡ heads_of (header ++ records)
       → ◌≡◌ {A = Chains}
-      (record { units = units; aggregates = aggregates; small = small; large = large; kinds = kinds; next = next; heads = heads })
+      (record {
+        units = units;
+        aggregates = aggregates;
+        small = small;
+        large = large;
+        kinds = kinds;
+        regions = regions;
+        next = next;
+        heads = heads;
+      })
       (fields_of (header ++ records))
   unfolding fields_of
-  fields_read units aggregates small large kinds next heads u a s l k n h =
+  fields_read units aggregates small large kinds regions next heads u a s l k g n h =
       let u' = units-in header records headed in
       let a' = aggregates-in header records headed in
       let s' = lengths-in header records headed 2 (omega arith) in
       let l' = lengths-in header records headed 5 (omega arith) in
-      rw (u, a, s, l, k, n, h, u', a', s', l')
+      rw (u, a, s, l, k, g, n, h, u', a', s', l')
 
 -- ---- refusals 4 and 5
 
@@ -128,9 +143,12 @@ module _ (header records : List ℕ) (headed : Headed header records) (chains : 
   abbrev bytes : List ℕ
   bytes = header ++ records
 
-  units-read : chains.units ≤ 64
+  count-read : chains.units ≡ unit_count header
   unfolding fields_of
-  units-read = rw (read, units-in header records headed) headed.units
+  count-read = rw read (units-in header records headed)
+
+  units-read : chains.units ≤ 64
+  units-read = rw count-read headed.units
 
   aggregates-read : chains.aggregates ≤ 16
   unfolding fields_of
@@ -139,21 +157,37 @@ module _ (header records : List ℕ) (headed : Headed header records) (chains : 
   pub counts-read : (chains.units ≤ 64) × (chains.aggregates ≤ 16)
   counts-read = (units-read, aggregates-read)
 
+  abbrev kinds : Bool
+  kinds = kinds_known chains.kinds (unit_count header)
+
+  abbrev regions : Bool
+  regions = regions_known chains.regions (unit_count header)
+
   abbrev all_known : Bool
-  all_known = header_spare bytes && kinds_known chains.kinds (unit_count header) && units_spare bytes && heads_spare bytes
+  all_known = header_spare bytes && kinds && regions && units_spare bytes && heads_spare bytes
 
   module _ (known : Bool) (k : known ≡ all_known) where
     known_is : known ≡ fields_known bytes
     unfolding fields_known fields_of
     known_is =
-        let kinds = kinds_known chains.kinds (unit_count header) in
         k
-        ∙ and_assoc (header_spare bytes && kinds) (units_spare bytes) (heads_spare bytes)
-        ∙ rw (read, units-in header records headed)
+        ∙ and_assoc (header_spare bytes && kinds && regions) (units_spare bytes) (heads_spare bytes)
+        ∙ rw (and_assoc (header_spare bytes) kinds regions, read, units-in header records headed)
 
     pub read-4 : not known ≡ true → Err Record ≡ records_from bytes
     unfolding records_from
     read-4 e = rw (failed known_is e)
+
+    -- the tests of a roster that the records have passed
+    pub read-known : known ≡ true → Known chains
+    read-known right =
+        let head = header_spare bytes && kinds && regions in
+        let units = and_l head (units_spare bytes) (and_l (head && units_spare bytes) (heads_spare bytes) (sym k ∙ right)) in
+        record {
+          least = rw count-read headed.least;
+          kinds = rw count-read (and_r (header_spare bytes) kinds (and_l (header_spare bytes && kinds) regions units));
+          regions = rw count-read (and_r (header_spare bytes && kinds) regions units);
+        }
 
     module _ (right : not known ≡ false) (inside : Bool) (i : inside ≡ indices_in chains) where
       inside_is : inside ≡ indices_in (fields_of bytes)
@@ -171,9 +205,9 @@ module _ (header records : List ℕ) (headed : Headed header records) (chains : 
   read-walkable inside i e = record { units = units-read; aggregates = aggregates-read; inside = passed i e }
 
 -- what `records_from` needs of them
-pub ruleset records = (counts-read, read-4, read-5, read-chains, read-walkable)
+pub ruleset records = (counts-read, read-known, read-4, read-5, read-chains, read-walkable)
 
--- ---- refusals 6, 7 and 30
+-- ---- refusals 6, 7, 30 and 37
 
 module _ (c : Chains) (walkable : Walkable c) (w : Walked) (e : w.walk ≡ walked unwalked (all_members c)) where
   twice-is : w.walk.twice ≡ not (met_once c)
@@ -186,37 +220,54 @@ module _ (c : Chains) (walkable : Walkable c) (w : Walked) (e : w.walk ≡ walke
   unfolding chained_from
   walked-6 t = rw (not-true (met_once c) (sym twice-is ∙ t))
 
-  module _ (one : w.walk.twice ≡ false) (ends : Bool) (i : ends ≡ every (ends_at w.walk.met c.next) c.units) where
+  module _ (one : w.walk.twice ≡ false) where
     once : met_once c ≡ true
     once = not-false (met_once c) (sym twice-is ∙ one)
 
-    ends_is : ends ≡ rest_ends c
-    unfolding rest_ends
-    ends_is = i ∙ rw met-is
+    module _ (h : w.stretches ≡ stretches_walked c) (roster : Roster) (q : roster ≡ roster_from c w) where
+      roster_is : roster ≡ roster_of c
+      roster_is = q ∙ laid_out c walkable once w e h
 
-    pub walked-7 : not ends ≡ true → Err Unmet ≡ chained_from c
-    unfolding chained_from
-    walked-7 t = rw (once, failed ends_is t)
+      pub walked-sound : Known c → roster_sound roster ≡ true
+      walked-sound known = rw roster_is (laid-sound c walkable once known)
 
-    module _ (end : not ends ≡ false) (scheduled : Bool) (s : scheduled ≡ every (scheduled_at w.walk.met c.kinds) c.units) where
-      scheduled-is : scheduled ≡ members_scheduled c
-      unfolding members_scheduled
-      scheduled-is = s ∙ rw met-is
+    module _ (ends : Bool) (i : ends ≡ every (ends_at w.walk.met c.next) c.units) where
+      ends_is : ends ≡ rest_ends c
+      unfolding rest_ends
+      ends_is = i ∙ rw met-is
 
-      pub walked-30 : not scheduled ≡ true → Err SemiScheduledMember ≡ chained_from c
+      pub walked-7 : not ends ≡ true → Err Unmet ≡ chained_from c
       unfolding chained_from
-      walked-30 t = rw (once, passed ends_is end, failed scheduled-is t)
+      walked-7 t = rw (once, failed ends_is t)
 
-      pub walked-accepted : not scheduled ≡ false → w.stretches ≡ stretches_walked c → (roster : Roster) → roster ≡ roster_from c w
-          → ◌≡◌ {A = Result Registered RegisterRefusal} (Ok (record { visits = w.walk.steps; roster = roster })) (chained_from c)
-      unfolding chained_from accepted_as
-      walked-accepted t h roster q =
-          rw (
-            q,
-            laid_out c walkable once w e h,
-            e,
-            walk_steps c walkable.inside walkable.units,
-            once,
-            passed ends_is end,
-            passed scheduled-is t,
-          )
+      module _ (end : not ends ≡ false) (scheduled : Bool) (s : scheduled ≡ every (scheduled_at w.walk.met c.kinds) c.units) where
+        scheduled-is : scheduled ≡ members_scheduled c
+        unfolding members_scheduled
+        scheduled-is = s ∙ rw met-is
+
+        pub walked-30 : not scheduled ≡ true → Err SemiScheduledMember ≡ chained_from c
+        unfolding chained_from
+        walked-30 t = rw (once, passed ends_is end, failed scheduled-is t)
+
+        module _ (right : not scheduled ≡ false) (h : w.stretches ≡ stretches_walked c) (roster : Roster) (q : roster ≡ roster_from c w)
+            (shared : Bool) (r : shared ≡ regions_shared (held roster)) where
+          shared-is : shared ≡ regions_shared (plant_of c)
+          shared-is = r ∙ rw (roster_is h roster q) (shared-laid c walkable)
+
+          pub walked-37 : not shared ≡ true → Err AcrossRegions ≡ chained_from c
+          unfolding chained_from
+          walked-37 t = rw (once, passed ends_is end, passed scheduled-is right, failed shared-is t)
+
+          pub walked-accepted : not shared ≡ false
+              → ◌≡◌ {A = Result Registered RegisterRefusal} (Ok (record { visits = w.walk.steps; roster = roster })) (chained_from c)
+          unfolding chained_from accepted_as
+          walked-accepted t =
+              rw (
+                roster_is h roster q,
+                e,
+                walk_steps c walkable.inside walkable.units,
+                once,
+                passed ends_is end,
+                passed scheduled-is right,
+                passed shared-is t,
+              )

@@ -7,12 +7,15 @@ use Prim.Native.Nat.{ℕ, ◌<◌}
 use native.Mathlib.Omega.{arith}
 use Rattle.std.specs.Prelude.{Result, Ok, Err}
 use Rattle.trace.specs.Refusals.{first_refusal}
+use Rattle.plants.specs.Plants.{regions_shared}
 use Rattle.plants.specs.Rosters.{counts_in}
 use Rattle.chains.specs.declared.Chains.{Chains}
+use Rattle.chains.specs.Chains.{plant_of}
 use Rattle.chains.specs.Rules.{indices_in, met_once, rest_ends, members_scheduled}
 use Rattle.register.specs.declared.Registered.{Registered}
 use Rattle.register.specs.declared.RegisterRefusal.{RegisterRefusal}
-use Rattle.register.specs.declared.RegisterRefusal.TheVariants.{Length, Counts, RunLengths, Record, Index, MetTwice, Unmet, SemiScheduledMember}
+use Rattle.register.specs.declared.RegisterRefusal.TheVariants.{Length, Counts, RunLengths, Record, Index, MetTwice, Unmet}
+use Rattle.register.specs.declared.RegisterRefusal.TheVariants.{SemiScheduledMember, AcrossRegions}
 use Rattle.register.specs.Fields.{unit_count, aggregate_count, fields_of}
 use Rattle.register.specs.Rules.{long_enough, whole_length}
 use Rattle.register.specs.Registers.{register_number, answer_number, answer_visits, visits_of, unless, accepted_as, lengths_rise, fields_known}
@@ -35,6 +38,7 @@ some_number Index = omega arith
 some_number MetTwice = omega arith
 some_number Unmet = omega arith
 some_number SemiScheduledMember = omega arith
+some_number AcrossRegions = omega arith
 
 module _ (c : Chains) where
   -- one refusal more in front
@@ -60,7 +64,8 @@ register-goes bytes =
     (unless-goes c Index (indices_in c)
     (unless-goes c MetTwice (met_once c)
     (unless-goes c Unmet (rest_ends c)
-    (unless-goes c SemiScheduledMember (members_scheduled c) (accepted-goes c)))))))))
+    (unless-goes c SemiScheduledMember (members_scheduled c)
+    (unless-goes c AcrossRegions (regions_shared (plant_of c)) (accepted-goes c))))))))))
 
 -- what reading promises of its result
 pub reads : (bytes : List ℕ) (r : Result Registered RegisterRefusal) → r ≡ registered_of bytes → Reads bytes r

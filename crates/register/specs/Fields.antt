@@ -41,6 +41,10 @@ kind_in bytes i = kind_of (field_at bytes 16 i)
 unfoldable pub kinds_of : List ℕ → List (Option Kind)
 kinds_of bytes = sweep (kind_in bytes) (unit_count bytes) (replicate 64 None)
 
+-- "Byte 2 of a unit record becomes its region" (02, 2026-09)
+unfoldable pub regions_of : List ℕ → List ℕ
+regions_of bytes = sweep (field_at bytes 18) (unit_count bytes) (replicate 64 0)
+
 unfoldable pub nexts_of : List ℕ → List ℕ
 nexts_of bytes = sweep (field_at bytes 17) (unit_count bytes) (replicate 64 0)
 
@@ -56,6 +60,7 @@ fields_of bytes =
       small = lengths_at bytes 2;
       large = lengths_at bytes 5;
       kinds = kinds_of bytes;
+      regions = regions_of bytes;
       next = nexts_of bytes;
       heads = heads_of bytes;
     }

@@ -6,6 +6,7 @@ use Rattle.register.specs.Fields.{unit_count, aggregate_count}
 -- the header has passed 1 and 2, so that the records can be read
 pub record Headed (header records : List ℕ) : Type 0 where
   pub size : length header ≡ 16
+  pub least : 1 ≤ unit_count header
   pub units : unit_count header ≤ 64
   pub aggregates : aggregate_count header ≤ 16
   pub whole : length records ≡ 4 * unit_count header + 4 * aggregate_count header

@@ -1,4 +1,4 @@
--- One test for each rule on the bytes (01, "The register" and "Refused because of what was sent"; 02, 2026-01).
+-- One test for each rule on the bytes (01, "The register" and "Refused because of what was sent"; 02, 2026-01 and 2026-09).
 use Rattle.std.specs.Prelude.{Bool, ◌&&◌, List, ℕ, ◌+◌, ◌*◌, leb, ltb, eqb, length}
 use Rattle.trace.specs.Sweeps.{every}
 use Rattle.plants.specs.declared.Lengths.{Lengths}
@@ -29,7 +29,7 @@ abbrev pub header_spare : List ℕ → Bool
 header_spare bytes = every (zero_at bytes 8) 8
 
 abbrev pub units_spare : List ℕ → Bool
-units_spare bytes = every (spare_at bytes 18 2) (unit_count bytes)
+units_spare bytes = every (spare_at bytes 19 1) (unit_count bytes)
 
 abbrev pub heads_spare : List ℕ → Bool
 heads_spare bytes = every (spare_at bytes (heads_place bytes + 1) 3) (aggregate_count bytes)

@@ -1,10 +1,11 @@
-// Reads a register (01, "The register"; 02, 2026-01 and 2026-08): the roster and the visits along its chains, or its refusal.
+// Reads a register (01, "The register"; 02, 2026-01, 2026-08 and 2026-09): the roster and the visits along its chains, or its refusal.
 #![tactic(auto)]
 
 mod header;
 mod records;
 
 ghost use Rattle.std.specs.Prelude.{◌≡◌, ◌++◌};
+ghost use Rattle.chains.specs.Rules.{Known};
 ghost use Rattle.chains.specs.Walks.{roster_from};
 ghost use Rattle.register.specs.Registers.{register_number, chained_from, records_from, Reads};
 
@@ -13,7 +14,7 @@ use chains::{Chains, ChainsInRange};
 use plants::Roster;
 use records::Register;
 
-// The rules that a register can fail. 01 gives each its number, and 02, 2026-01, the last one's.
+// The rules that a register can fail. 01 gives each its number, and 02, 2026-01 and 2026-09, those of the last two.
 #[derive(Clone, Copy, Debug, PartialEq, Eq)]
 pub enum RegisterRefusal {
     Length,
@@ -24,6 +25,7 @@ pub enum RegisterRefusal {
     MetTwice,
     Unmet,
     SemiScheduledMember,
+    AcrossRegions,
 }
 
 impl From<RegisterRefusal> for u32 {
@@ -40,6 +42,7 @@ impl From<RegisterRefusal> for u32 {
             RegisterRefusal::MetTwice => 6,
             RegisterRefusal::Unmet => 7,
             RegisterRefusal::SemiScheduledMember => 30,
+            RegisterRefusal::AcrossRegions => 37,
         }
     }
 }
@@ -53,11 +56,12 @@ pub struct Registered {
 
 // What is held of the chains that were walked.
 #[tactic(auto, unfolding(chains::specs::Walks::roster_from))]
-fn laid_out(chains: Chains, walked: Walked) -> Roster
-    ensures { result ≡ roster_from chains walked }
+fn laid_out(tested: ChainsInRange, walked: Walked) -> Roster
+    ensures { result ≡ roster_from tested.chains walked }
 {
     let Walk { met, members, .. } = walked.walk;
     let Walked { stretches, .. } = walked;
+    let chains = tested.chains;
     let Chains { kinds, .. } = chains;
     Roster {
         units: chains.units,
@@ -66,13 +70,15 @@ fn laid_out(chains: Chains, walked: Walked) -> Roster
         large: chains.large,
         kinds,
         chained: met,
+        regions: tested.point_regions(),
         members,
         stretches,
     }
 }
 
-// 6, 7 and 30, or the roster that the chains give.
+// 6, 7, 30 and 37, or the roster that the chains give.
 fn chained_from(tested: ChainsInRange) -> Result<Registered, RegisterRefusal>
+    requires { Known tested.chains }
     ensures { result ≡ chained_from tested.chains }
 {
     let walked = tested.walk_chains();
@@ -86,9 +92,13 @@ fn chained_from(tested: ChainsInRange) -> Result<Registered, RegisterRefusal>
     if !chains::members_scheduled(tested.chains, walk.met) {
         return Err(RegisterRefusal::SemiScheduledMember);
     }
+    let roster = laid_out(tested, walked);
+    if !plants::regions_shared(&roster) {
+        return Err(RegisterRefusal::AcrossRegions);
+    }
     Ok(Registered {
         visits: u32::from(walk.steps),
-        roster: laid_out(tested.chains, walked),
+        roster,
     })
 }
 
@@ -98,7 +108,7 @@ fn records_from(register: Register) -> Result<Registered, RegisterRefusal>
     ensures { result ≡ records_from (register.entry.header.now ++ register.entry.records.now) }
 {
     let chains = register.read_fields();
-    if !register.fields_known(chains.kinds) {
+    if !register.fields_known(chains.kinds, chains.regions) {
         return Err(RegisterRefusal::Record);
     }
     if !chains::indices_in(chains) {

@@ -3,7 +3,7 @@ ghost use Rattle.std.specs.Prelude.{◌≡◌, ◌&&◌, ◌-◌, ◌≤◌, ◌
 ghost use Rattle.std.specs.List.{list_all};
 ghost use Rattle.trace.specs.Sweeps.{sweep};
 ghost use Rattle.kinds.specs.Kinds.{kind_of};
-ghost use Rattle.plants.specs.Rosters.{kinds_known};
+ghost use Rattle.plants.specs.Rosters.{kinds_known, regions_known};
 ghost use Rattle.register.specs.Fields.{unit_count, aggregate_count, fields_of};
 ghost use Rattle.register.specs.Rules.{header_spare, units_spare, heads_spare};
 ghost use Rattle.register.specs.Headers.{Headed, records_in, is_zero};
@@ -90,21 +90,24 @@ impl<'a> Register<'a> {
             small: header::lengths_at(self.header, 2),
             large: header::lengths_at(self.header, 5),
             kinds: kinds(units),
+            regions: fields(units, 2),
             next: fields(units, 1),
             heads: fields(heads, 0),
         }
     }
 
-    // Every spare byte is 0, and every kind is known. `kinds` are those of `read_fields`, which are read once.
-    pub(crate) fn fields_known(&self, kinds: [Option<Kind>; 64]) -> bool
+    // Every spare byte is 0, and every kind and region is known. Both are those of `read_fields`, which are read once.
+    pub(crate) fn fields_known(&self, kinds: [Option<Kind>; 64], regions: [u8; 64]) -> bool
         ensures { let bytes = bytes_of self.now in
-            result ≡ (header_spare bytes && kinds_known kinds (unit_count self.now.header.now) && units_spare bytes && heads_spare bytes) }
+            let units = unit_count self.now.header.now in
+            result ≡ (header_spare bytes && kinds_known kinds units && regions_known regions units && units_spare bytes && heads_spare bytes) }
     {
         let header = self.header;
         let (units, heads) = self.units_and_heads();
         zeros(&header[8..])
             && plants::known_kinds(&kinds, units.len())
-            && spares(units, 2)
+            && plants::known_regions(&regions, units.len())
+            && spares(units, 3)
             && spares(heads, 1)
     }
 }
