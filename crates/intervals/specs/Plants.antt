@@ -2,7 +2,7 @@
 -- aggregate with its members, or a unit in no chain"). In lists a point or a unit stands at its place, its number less one.
 use Rattle.std.specs.Prelude.{Bool, false, cond, ◌&&◌, List, [], ◌∷◌, ℕ, zero, suc, ◌+◌, ◌-◌, eqb, ltb, get_or, None}
 use Rattle.telemetry.specs.Ranges.{is_unidirectional}
-use Rattle.plants.specs.Plants.{Plant, elem}
+use Rattle.plants.specs.Plants.{Plant, elem, region_of}
 
 abbrev pub total : Plant → ℕ
 total plant = plant.units + plant.aggregates
@@ -32,3 +32,8 @@ unit_in plant (aggregate j) x = elem x (plant.members j)
 unfoldable pub point_in : Plant → Group → ℕ → Bool
 point_in plant (unit u) i = ltb i plant.units && eqb i u
 point_in plant (aggregate j) i = cond (ltb i plant.units) (elem i (plant.members j)) (eqb i (plant.units + j))
+
+-- the region of a group: its unit's own, or that of its aggregate's point
+unfoldable pub group_region : Plant → Group → ℕ
+group_region plant (unit u) = region_of plant u
+group_region plant (aggregate j) = region_of plant (plant.units + j)

@@ -3,7 +3,7 @@
 use Rattle.std.specs.Prelude.{◌≡◌, ◌⊎◌, ℕ, ◌≤◌, ◌<◌}
 
 -- n is the status at these runs, of the lengths to Not-Responding and to Pending, ns and ps of the small run, nl and pl of the large.
--- `Automatic` says that the interval is in automatic mode
+-- `Automatic` says that the interval is in automatic mode for the point
 pub data Status (Automatic : Type 0) (ns ps nl pl small large : ℕ) : ℕ → Type 0 where
   -- "3 NC-Pending when the small run is Ps or more or the large run Pl or more"
   pending : Automatic → (ps ≤ small) ⊎ (pl ≤ large) → Status Automatic ns ps nl pl small large 3

@@ -61,8 +61,8 @@ pub struct Point {
     pub reason: Reason,
 }
 
-// The run lengths of a plant, and whether an interval is in automatic mode. The interval's number is no part of it: a status goes by the rule
-// alone.
+// The run lengths of a plant, and whether an interval is in automatic mode for the point. The interval's number is no part of it: a status goes
+// by the rule alone.
 #[derive(Clone, Copy)]
 pub struct Rule {
     pub small: Lengths,
