@@ -11,6 +11,7 @@ bounds =
       lines = refl;
       targets = refl;
       modes = refl;
+      masks = refl;
       levels = refl;
       registers = refl;
       largest = refl;

@@ -28,15 +28,16 @@ use Rattle.aggregates.specs.Aggregates.{aggregate_basis, sums_assessment, aggreg
 use Rattle.targets.specs.Targets.{member_at, members_kept, target_over, target_of}
 use Rattle.points.specs.Points.{longer, reason_of, counted, status_of, graded, is_counted, declares, settled, marked_by}
 use Rattle.points.specs.Records.{record_of}
-use Rattle.plants.specs.Rosters.{entries, stretch_of, no_roster, kinds_known, places_in, stretches_in, roster_sound}
-use Rattle.chains.specs.Chains.{chain, members_of, all_members, times_in, met_at, chained_of}
+use Rattle.plants.specs.Plants.{shares_region, regions_shared}
+use Rattle.plants.specs.Rosters.{entries, stretch_of, no_roster, kinds_known, regions_known, places_in, stretches_in, roster_sound}
+use Rattle.chains.specs.Chains.{chain, members_of, all_members, times_in, met_at, chained_of, places_of, region_at, point_regions, plant_of}
 use Rattle.chains.specs.Layouts.{start_at, count_at, flat_of, roster_of}
 use Rattle.chains.specs.Rules.{indices_in, met_once, rest_ends, members_scheduled}
 use Rattle.register.specs.Fields as register
 use Rattle.register.specs.Registers.{lengths_rise, fields_known, accepted_as, chained_from, records_from, registered_of}
 use Rattle.register.specs.declared.RegisterRefusal.{RegisterRefusal}
 use Rattle.intervals.specs.Plants.{named, is_unidirectional_at}
-use Rattle.intervals.specs.Assessments.{rule_of, line_at, is_fresh, sight_at, assessment_at}
+use Rattle.intervals.specs.Assessments.{is_automatic, rule_of, line_at, is_fresh, sight_at, assessment_at}
 use Rattle.intervals.specs.Monitors.{plant_in, sound_by, sound_of, begun}
 use Rattle.intervals.specs.Intervals.{refusal_number, headed, judge_header, judge_interval, interval_verdict, assessment_in, point_after, record_after}
 use Rattle.intervals.specs.Intervals.{kept_after, monitor_after, interval_of, report_of}
@@ -51,8 +52,9 @@ use Rattle.monitor.specs.Examples.{Examples}
 
 unfoldable pub loaded_of : List ℕ → Result Loaded RegisterRefusal
 unfolding load_of registered_of records_from chained_from accepted_as fields_known lengths_rise every sweep records kind_of
-    register.fields_of register.kinds_of register.nexts_of register.heads_of chain members_of all_members times_in met_at chained_of
-    start_at count_at flat_of roster_of indices_in met_once rest_ends members_scheduled kinds_known begun
+    register.fields_of register.kinds_of register.regions_of register.nexts_of register.heads_of chain members_of all_members times_in met_at
+    chained_of places_of region_at point_regions plant_of start_at count_at flat_of roster_of indices_in met_once rest_ends members_scheduled
+    shares_region regions_shared kinds_known regions_known begun
 loaded_of = load_of
 
 read : Option Kind → Bool → List ℕ → Option Fields
@@ -72,9 +74,9 @@ summed = aggregate_assessment
 
 unfoldable pub answered : Monitor → Call → Outcome
 unfolding read assessed summed interval_of report_of monitor_after interval_verdict judge_interval judge_header headed sound_of sound_by roster_sound
-    places_in stretches_in kinds_known kept_bounded plant_in no_roster stretch_of entries every sweep records kept_after kept_from kept_line line_at
-    target_of target_over members_kept member_at rule_of is_fresh sight_at assessment_at assessment_in point_after record_after record_of bytes_of
-    mark_number marked_by settled counted longer declares is_counted reason_of graded status_of
+    places_in stretches_in kinds_known regions_known kept_bounded plant_in no_roster stretch_of entries every sweep records kept_after kept_from
+    kept_line line_at target_of target_over members_kept member_at is_automatic rule_of is_fresh sight_at assessment_at assessment_in point_after
+    record_after record_of bytes_of mark_number marked_by settled counted longer declares is_counted reason_of graded status_of
     looked_of reasoned_of targeted_of operated_of operator_verdict permit change stored allowed_level is_unidirectional_at refusal_number named
 answered = answer
 
@@ -91,4 +93,6 @@ examples =
       sides_of_aggregate = refl;
       levels = refl;
       calls_and_refusals = refl;
+      five_regions = refl;
+      region_of_aggregate = refl;
     }

@@ -1,13 +1,14 @@
 -- Demand 3, over every list of interval, declare, reinstate, look, reason and target calls, refused ones included, from a freshly accepted
 -- register on.
-use Rattle.std.specs.Prelude.{◌≡◌, ◌↔◌, ◌⊎◌, Bool, true, false, cond, ◌&&◌, List, [], ◌∷◌, ◌++◌, ℕ, zero, suc, ◌+◌, ◌*◌, ◌≤◌, ℤ, length, take, drop, Ok}
+use Rattle.std.specs.Prelude.{◌≡◌, ◌↔◌, ◌⊎◌, Bool, true, false, cond, ◌&&◌, List, [], ◌∷◌, ◌++◌, length, get_or, take, drop, Ok}
+use Rattle.std.specs.Prelude.{ℕ, zero, suc, ◌+◌, ◌*◌, ◌/◌, ◌%◌, ◌^◌, ◌≤◌, ℤ}
 use Rattle.trace.specs.Lists.{outcomes, Alike, sights, Since}
-use Rattle.plants.specs.Plants.{Plant, place}
+use Rattle.plants.specs.Plants.{Plant, place, region_of}
 use Rattle.marks.specs.Levels.{is_dispatchable}
 use Rattle.marks.specs.declared.Mark.TheVariants.{Small, Large}
 use Rattle.points.specs.declared.Point.{Point}
-use Rattle.intervals.specs.Plants.{total, named, is_unidirectional_at, Group, unit_in, point_in}
-use Rattle.intervals.specs.Assessments.{header_of, mode_of, bytes_at}
+use Rattle.intervals.specs.Plants.{total, named, is_unidirectional_at, Group, unit_in, point_in, group_region}
+use Rattle.intervals.specs.Assessments.{header_of, number_of, mask_of, bytes_at}
 use Rattle.intervals.specs.Monitors.{point_at}
 use Rattle.intervals.specs.declared.Monitor.{Monitor}
 use Rattle.operators.specs.Operators.{Operator, declare, reinstate, ask, look}
@@ -20,11 +21,21 @@ use Rattle.monitor.specs.History.{History, begin, is_declared, assessment_then, 
 abbrev pub names : Plant → Group → ℕ → Bool
 names plant g p = named plant p && point_in plant g (place p)
 
+-- "A group's history now includes its own region's bit and no other: flipping another region's bit joins the things an outsider may alter without
+-- effect" (02, 2026-09). Both masks are up to 31 or neither is, so that 9 refuses both headers or neither
+pub record SameHeader (region : ℕ) (header header' : List ℕ) : Type 0 where
+  pub number : number_of header ≡ number_of header'
+  pub bit : mask_of header / 2 ^ region % 2 ≡ mask_of header' / 2 ^ region % 2
+  pub masks : (mask_of header ≤ 31) ↔ (mask_of header' ≤ 31)
+  pub spare_5 : get_or header 5 0 ≡ get_or header' 5 0
+  pub spare_6 : get_or header 6 0 ≡ get_or header' 6 0
+  pub spare_7 : get_or header 7 0 ≡ get_or header' 7 0
+
 -- Two calls at the same place of the two lists: "lines of units outside the group may be rewritten, .. and all else stays, interval
--- headers and buffer lengths too". "What a report buffer held before its call may differ"
+-- headers and buffer lengths too", but for other regions' bits. "What a report buffer held before its call may differ"
 pub data Matched (plant : Plant) (g : Group) : Call → Call → Type 0 where
   same_interval : {buffer buffer' report report' : List ℕ}
-      → header_of buffer ≡ header_of buffer'
+      → SameHeader (group_region plant g) (header_of buffer) (header_of buffer')
       → length buffer ≡ length buffer'
       → length report ≡ length report'
       → ((i : ℕ) → unit_in plant g i ≡ true → bytes_at buffer i ≡ bytes_at buffer' i)
@@ -72,7 +83,7 @@ pub data Declares (plant : Plant) (p : ℕ) (h : History) : Call → Type 0 wher
   by_mark : (buffer report : List ℕ)
       → verdict plant h (interval buffer report) ≡ Ok tt
       → IsPoint plant p
-      → mode_of (header_of buffer) ≡ 1
+      → mask_of (header_of buffer) / 2 ^ region_of plant (place p) % 2 ≡ 1
       → ((assessment_then plant h buffer (place p)).mark ≡ Small) ⊎ ((assessment_then plant h buffer (place p)).mark ≡ Large)
       → (plant.small.declaration ≤ ((extend plant h (interval buffer report)).points (place p)).small.count)
       ⊎ (plant.large.declaration ≤ ((extend plant h (interval buffer report)).points (place p)).large.count)

@@ -1,6 +1,7 @@
--- Worked examples, in bytes: the run of 01's "The program", those of SO_OP_3705 (000, A.5), and four more for what they leave open. A register,
--- the buffers sent after it and the reports are written as numbers at 01's places, and every value is worked out by hand from the papers: nothing
--- here goes by the definitions of fields, lines, rates, triggers, marks and runs. In comments power is in MW, and rates are in MW per minute.
+-- Worked examples, in bytes: the run of 01's "The program", those of SO_OP_3705 (000, A.5), four more for what they leave open, and two of "Five
+-- regions" (02, 2026-09). A register, the buffers sent after it and the reports are written as numbers at the papers' places, and every value is
+-- worked out by hand from the papers: nothing here goes by the definitions of fields, lines, rates, triggers, marks, runs and regions. In comments
+-- power is in MW, and rates are in MW per minute.
 use Rattle.std.specs.Prelude.{◌≡◌, true, List, [], ◌∷◌, ◌++◌, ℕ, ◌-◌, ◌*◌, ◌/◌, ◌%◌, ℤ, pos, negsuc, take, replicate, Result, Ok, Err}
 use Rattle.register.specs.declared.RegisterRefusal.{RegisterRefusal}
 use Rattle.points.specs.declared.Run.{Run}
@@ -26,9 +27,12 @@ minus n = 4294967296 - n
 abbrev pub header : (units aggregates ns ps ds nl pl dl : ℕ) → List ℕ
 header units aggregates ns ps ds nl pl dl = units ∷ aggregates ∷ ns ∷ ps ∷ ds ∷ nl ∷ pl ∷ dl ∷ 0 ∷ 0 ∷ 0 ∷ 0 ∷ 0 ∷ 0 ∷ 0 ∷ 0 ∷ []
 
--- a unit's record, and a head
+-- a unit's record in a region, one in region 0, and a head
+abbrev pub unit_record_in : (region kind next : ℕ) → List ℕ
+unit_record_in region kind next = kind ∷ next ∷ region ∷ 0 ∷ []
+
 abbrev pub unit_record : (kind next : ℕ) → List ℕ
-unit_record kind next = kind ∷ next ∷ 0 ∷ 0 ∷ []
+unit_record = unit_record_in 0
 
 abbrev pub head_record : (first : ℕ) → List ℕ
 head_record first = first ∷ 0 ∷ 0 ∷ 0 ∷ []
@@ -44,17 +48,20 @@ line quality mode cap mwb mwo fcr fcl bid_up bid_down mw scada_up scada_down =
 abbrev pub good_line : (mode mwb mwo fcr fcl bid_up bid_down mw scada_up scada_down : ℕ) → List ℕ
 good_line mode = line 0 mode 0
 
--- an interval's buffer: number, mode (0 manual, 1 automatic), zeros and the lines
-abbrev pub buffer : (number mode : ℕ) → List ℕ → List ℕ
-buffer number mode lines = words (number ∷ []) ++ (mode ∷ 0 ∷ 0 ∷ 0 ∷ lines)
+-- an interval's buffer: number, mask ("bit r set means region r is automatic"), zeros and the lines
+abbrev pub buffer : (number mask : ℕ) → List ℕ → List ℕ
+buffer number mask lines = words (number ∷ []) ++ (mask ∷ 0 ∷ 0 ∷ 0 ∷ lines)
 
 -- the report of so many points as it stood before, with 255 in each byte
 abbrev pub report_before : (points : ℕ) → List ℕ
 report_before points = replicate (16 * points) 255
 
--- an interval in automatic mode
+-- an interval with this mask, and one with region 0 alone in automatic mode
+abbrev pub sent_in : (mask points number : ℕ) → List ℕ → Call
+sent_in mask points number lines = interval (buffer number mask lines) (report_before points)
+
 abbrev pub sent : (points number : ℕ) → List ℕ → Call
-sent points number lines = interval (buffer number 1 lines) (report_before points)
+sent = sent_in 1
 
 -- a point's record in the report
 abbrev pub point_record : (status mark small_run large_run error trigger level : ℕ) → List ℕ
@@ -316,30 +323,33 @@ levels_rows =
     ∷ []
 
 -- The unit of "The program", at 107 again and again: modes, refusals, a jump in numbers and operator calls. Refused are an interval that is not
--- above the last, a mode above 1, each spare byte, a line or a report that is a byte short, and with them nothing changes. "Manual mode shows 2
+-- above the last, a mask above 31, each spare byte, a line or a report that is a byte short, and with them nothing changes. "Manual mode shows 2
 -- instead of 3", and declares nothing. A jump leaves the mark BLANK and the runs. At a mark in automatic mode it is declared, at its MW. A
 -- substituted value past its trigger is DOUBT, a bad one BLANK, and so is an unreadable line (a cap flag of kind 1) and the line after it. A level
 -- below 0 is refused
 abbrev pub calls_line : List ℕ
 calls_line = program_line 0x42D6_0000
 
-abbrev pub headed : (mode first_spare second_spare third_spare : ℕ) → Call
-headed mode first_spare second_spare third_spare =
-    interval (words (12 ∷ []) ++ (mode ∷ first_spare ∷ second_spare ∷ third_spare ∷ calls_line)) (report_before 1)
+abbrev pub headed : (mask first_spare second_spare third_spare : ℕ) → Call
+headed mask first_spare second_spare third_spare =
+    interval (words (12 ∷ []) ++ (mask ∷ first_spare ∷ second_spare ∷ third_spare ∷ calls_line)) (report_before 1)
 
 abbrev pub manual : (number : ℕ) → Call
-manual number = interval (buffer number 0 calls_line) (report_before 1)
+manual number = sent_in 0 1 number calls_line
 
 -- LARGE at 107, with this status and both runs
+abbrev pub large_at_107 : (status runs : ℕ) → List ℕ
+large_at_107 status runs = point_record status 5 runs runs 7000 600000 0
+
 abbrev pub counted_to : (status runs : ℕ) → Outcome
-counted_to status runs = reported (point_record status 5 runs runs 7000 600000 0)
+counted_to status runs = reported (large_at_107 status runs)
 
 abbrev pub calls_rows : List Row
 calls_rows =
     (sent 1 10 calls_line, reported blank)
     ∷ (sent 1 11 calls_line, counted_to 1 1)
     ∷ (sent 1 11 calls_line, refusal 21)
-    ∷ (headed 2 0 0 0, refusal 9)
+    ∷ (headed 32 0 0 0, refusal 9)
     ∷ (headed 1 1 0 0, refusal 9)
     ∷ (headed 1 0 1 0, refusal 9)
     ∷ (headed 1 0 0 1, refusal 9)
@@ -373,6 +383,74 @@ calls_rows =
     ∷ (operate (ask target) 1, refusal 10)
     ∷ []
 
+-- ---- "Five regions" (02, 2026-09)
+
+-- Five generating units in no chain, each with the line at 107 again and again, in regions 4 to 0: a mask's bits, of which bit 4 is written first,
+-- stand in the order of the units. Where the bit of a unit's region is set, a third LARGE mark shows 3, and a fourth or later one declares the unit.
+-- Where it is clear, the status is 2 then, whatever the other bits are, and the runs grow. Unit 4 is reinstated, and counts from 0 again
+abbrev pub regions_register : List ℕ
+regions_register =
+    header 5 0 2 3 4 2 3 4
+    ++ (unit_record_in 4 1 0 ++ (unit_record_in 3 1 0 ++ (unit_record_in 2 1 0 ++ (unit_record_in 1 1 0 ++ unit_record_in 0 1 0))))
+
+abbrev pub regions_interval : (mask number : ℕ) → Call
+regions_interval mask number = sent_in mask 5 number (calls_line ++ (calls_line ++ (calls_line ++ (calls_line ++ calls_line))))
+
+abbrev pub regions_report : (first second third fourth fifth : List ℕ) → Outcome
+regions_report first second third fourth fifth = reported (first ++ (second ++ (third ++ (fourth ++ fifth))))
+
+abbrev pub declared_at_107 : List ℕ
+declared_at_107 = point_record 4 5 0 0 7000 600000 107000
+
+abbrev pub regions_rows : List Row
+regions_rows =
+    (regions_interval 0b11111 1, regions_report blank blank blank blank blank)
+    ∷ (regions_interval 0b00000 2, regions_report (large_at_107 1 1) (large_at_107 1 1) (large_at_107 1 1) (large_at_107 1 1) (large_at_107 1 1))
+    ∷ (regions_interval 0b11111 3, regions_report (large_at_107 2 2) (large_at_107 2 2) (large_at_107 2 2) (large_at_107 2 2) (large_at_107 2 2))
+    ∷ (regions_interval 0b01101 4, regions_report (large_at_107 2 3) (large_at_107 3 3) (large_at_107 3 3) (large_at_107 2 3) (large_at_107 3 3))
+    ∷ (regions_interval 0b01010 5, regions_report (large_at_107 2 4) declared_at_107 (large_at_107 2 4) declared_at_107 (large_at_107 2 4))
+    ∷ (operate (ask reason) 1, refusal 36)
+    ∷ (operate (ask reason) 2, reasoned (ByLargeRun (record { first = 2; last = 5 })))
+    ∷ (operate (ask look) 3, look_shows 2 4 4 2 (pos 0) ByOperator)
+    ∷ (operate reinstate 4, done)
+    ∷ (regions_interval 0b10001 6, regions_report declared_at_107 declared_at_107 (large_at_107 2 5) (large_at_107 1 1) declared_at_107)
+    ∷ (operate (ask reason) 1, reasoned (ByLargeRun (record { first = 2; last = 6 })))
+    ∷ (regions_interval 0b11011 7, regions_report declared_at_107 declared_at_107 (large_at_107 2 6) (large_at_107 2 2) declared_at_107)
+    ∷ (regions_interval 0b00100 8, regions_report declared_at_107 declared_at_107 declared_at_107 (large_at_107 2 3) declared_at_107)
+    ∷ (operate (ask reason) 3, reasoned (ByLargeRun (record { first = 2; last = 8 })))
+    ∷ (operate (ask look) 4, look_shows 2 3 3 6 (pos 0) ByOperator)
+    ∷ []
+
+-- Such a unit in region 0, and two in a chain in region 4, in conformance mode 2, with unit 3 its head. "All members of a chain share a region", which
+-- is the aggregate's. Of the aggregate 214 - 200 is 14. Small: 6 and 12; 6 MW. Large: 10 and 24; 10 MW. Bit 4 decides for the members and for the
+-- aggregate, and bit 0 for the first unit
+abbrev pub shared_region_register : List ℕ
+shared_region_register =
+    header 3 1 2 3 4 2 3 4 ++ (unit_record_in 0 1 0 ++ (unit_record_in 4 1 0 ++ (unit_record_in 4 1 2 ++ head_record 3)))
+
+abbrev pub shared_region_interval : (mask number : ℕ) → Call
+shared_region_interval mask number =
+    let member_line : List ℕ = good_line 2 100000 100000 0 0 3000 3000 0x42D6_0000 0x4040_0000 0x4040_0000 in
+    sent_in mask 4 number (calls_line ++ (member_line ++ member_line))
+
+abbrev pub shared_region_report : (unit member aggregate : List ℕ) → Outcome
+shared_region_report unit member aggregate = reported (unit ++ (member ++ (member ++ aggregate)))
+
+abbrev pub large_at_214 : (status runs level : ℕ) → List ℕ
+large_at_214 status runs level = point_record status 5 runs runs 14000 600000 level
+
+abbrev pub shared_region_rows : List Row
+shared_region_rows =
+    (shared_region_interval 0b10000 1, shared_region_report blank blank blank)
+    ∷ (shared_region_interval 0b00001 2, shared_region_report (large_at_107 1 1) (large_at_107 1 1) (large_at_214 1 1 0))
+    ∷ (shared_region_interval 0b10001 3, shared_region_report (large_at_107 2 2) (large_at_107 2 2) (large_at_214 2 2 0))
+    ∷ (shared_region_interval 0b10000 4, shared_region_report (large_at_107 2 3) (large_at_107 3 3) (large_at_214 3 3 0))
+    ∷ (shared_region_interval 0b01111 5, shared_region_report declared_at_107 (large_at_107 2 4) (large_at_214 2 4 0))
+    ∷ (shared_region_interval 0b10000 6, shared_region_report declared_at_107 declared_at_107 (large_at_214 4 0 214000))
+    ∷ (operate (ask reason) 1, reasoned (ByLargeRun (record { first = 2; last = 5 })))
+    ∷ (operate (ask reason) 4, reasoned (ByLargeRun (record { first = 2; last = 6 })))
+    ∷ []
+
 pub record Examples : Type 0 where
   pub program : Gives program_register 0 program_rows
   pub individual_units : Gives individual_register 0 individual_rows
@@ -383,3 +461,5 @@ pub record Examples : Type 0 where
   pub sides_of_aggregate : Gives sides_register 2 sides_rows
   pub levels : Gives levels_register 3 levels_rows
   pub calls_and_refusals : Gives program_register 0 calls_rows
+  pub five_regions : Gives regions_register 0 regions_rows
+  pub region_of_aggregate : Gives shared_region_register 2 shared_region_rows

@@ -16,7 +16,7 @@ use Rattle.points.specs.declared.Reason.TheVariants.{ByOperator}
 use Rattle.points.specs.declared.Run.{Run}
 use Rattle.points.specs.declared.Point.{Point}
 use Rattle.intervals.specs.Plants.{total, named, is_unidirectional_at}
-use Rattle.intervals.specs.Assessments.{header_of, number_of, is_automatic, rule_of, line_at, is_fresh, assessment_at}
+use Rattle.intervals.specs.Assessments.{header_of, number_of, mask_of, automatic_at, rule_of, line_at, is_fresh, assessment_at}
 use Rattle.intervals.specs.Intervals.{Verdict, decide, judge_interval}
 use Rattle.intervals.specs.declared.CallRefusal.TheVariants.{NoPoint, Level, Status, NotDeclared, NoReason}
 use Rattle.operators.specs.Operators.{Operator, declare, reinstate, ask, look, reason, target, allowed_level, permit_target, aggregate_at}
@@ -31,25 +31,25 @@ abbrev pub is_declared : Standing → Bool
 is_declared undeclared = false
 is_declared (declared level why) = true
 
--- one point
+-- one point: its runs, whether a declaration stands, and whether the last interval accepted was automatic for it
 pub record Past : Type 0 where
   pub small : Run
   pub large : Run
   pub standing : Standing
+  pub automatic : Bool
 
--- the number of the last interval accepted, where one was, its mode, each unit's kept line, and each point, by place
+-- the number of the last interval accepted, where one was, each unit's kept line, and each point, by place
 pub record History : Type 0 where
   pub last : Option ℕ
-  pub automatic : Bool
   pub kept : ℕ → Option Kept
   pub points : ℕ → Past
 
 -- "At the start no interval is accepted, nothing is kept and runs are 0"
 abbrev pub untouched : Past
-untouched = record { small = no_run; large = no_run; standing = undeclared }
+untouched = record { small = no_run; large = no_run; standing = undeclared; automatic = false }
 
 abbrev pub begin : History
-begin = record { last = None; automatic = false; kept = λ i. None; points = λ i. untouched }
+begin = record { last = None; kept = λ i. None; points = λ i. untouched }
 
 -- ---- an accepted interval
 
@@ -71,6 +71,7 @@ marked plant automatic number a q =
       large = large;
       standing =
           standing_after (declares rule a.mark small.count large.count) a.level (reason_of rule number small large) q.standing;
+      automatic = automatic;
     }
 
 -- "An accepted one marks every point from its lines and the lines kept before it"
@@ -99,10 +100,10 @@ permitted plant i (ask look) q = Ok tt
 permitted plant i (ask reason) q = cond (is_declared q.standing) (Ok tt) (Err NoReason)
 permitted plant i (ask target) q = permit_target plant i
 
--- reinstatement "sets both runs to 0"
+-- reinstatement "sets both runs to 0". No operator call changes a mode
 abbrev pub changed : Operator → Past → Past
-changed (declare level) q = record { small = q.small; large = q.large; standing = declared level ByOperator }
-changed reinstate q = untouched
+changed (declare level) q = record { small = q.small; large = q.large; standing = declared level ByOperator; automatic = q.automatic }
+changed reinstate q = record { small = no_run; large = no_run; standing = undeclared; automatic = q.automatic }
 changed (ask question) q = q
 
 -- ---- a call
@@ -119,15 +120,15 @@ effect plant h (interval buffer report) =
     let header = header_of buffer in
     record {
       last = Some (number_of header);
-      automatic = is_automatic header;
       kept = below plant.units (λ i. kept_from (line_at plant buffer i)) h.kept;
       points =
-          below (total plant) (λ i. marked plant (is_automatic header) (number_of header) (assessment_then plant h buffer i) (h.points i)) h.points;
+          below (total plant)
+          (λ i. marked plant (automatic_at plant (mask_of header) i) (number_of header) (assessment_then plant h buffer i) (h.points i))
+          h.points;
     }
 effect plant h (operate op p) =
     record {
       last = h.last;
-      automatic = h.automatic;
       kept = h.kept;
       points = updated (place p) (changed op (h.points (place p))) h.points;
     }
@@ -141,8 +142,8 @@ history plant = fold (extend plant) begin
 
 -- ---- what is seen of it
 
--- the record that a look answers and a report holds: runs stop at 255 and are 0 while declared, and the status is that of the last
--- accepted interval's mode
+-- the record that a look answers and a report holds: runs stop at 255 and are 0 while declared, and the status is that of the mode
+-- that the last accepted interval had for the point
 abbrev pub shown_as : Plant → Bool → Run → Run → Standing → Point
 shown_as plant automatic small large undeclared =
     record {
@@ -154,14 +155,14 @@ shown_as plant automatic small large undeclared =
     }
 shown_as plant automatic small large (declared level why) = declared_at level why
 
-abbrev pub shown : Plant → Bool → Past → Point
-shown plant automatic q = shown_as plant automatic q.small q.large q.standing
+abbrev pub shown : Plant → Past → Point
+shown plant q = shown_as plant q.automatic q.small q.large q.standing
 
 -- the report of an interval that is accepted, by the history before it
 abbrev pub report_then : Plant → History → List ℕ → List ℕ → List ℕ
 report_then plant h buffer report =
     let then = effect plant h (interval buffer report) in
-    records (λ i. record_of (assessment_then plant h buffer i) (shown plant then.automatic (then.points i))) (total plant)
+    records (λ i. record_of (assessment_then plant h buffer i) (shown plant (then.points i))) (total plant)
 
 -- the outcome of a call, by the history before it. An aggregate's target is what the lines that its units last sent add up to: no history of
 -- its own stands beside them
@@ -170,4 +171,4 @@ foretold plant h (interval buffer report) =
     decide (verdict plant h (interval buffer report)) refusal (reported (report_then plant h buffer report))
 foretold plant h (operate op p) =
     decide (verdict plant h (operate op p)) refusal
-    (reply op (shown plant h.automatic (h.points (place p))) (target_of plant h.kept (aggregate_at plant (place p))))
+    (reply op (shown plant (h.points (place p))) (target_of plant h.kept (aggregate_at plant (place p))))

@@ -1,15 +1,15 @@
 -- What `load` promises of lists of calls, said a second time: over the bytes of the register, of the buffers and of the reports, over numbers
 -- and the list of calls. It uses none of the definitions that say what is accepted, how a run grows, which status shows and what is seen of a
 -- report, so that a slip in one of those, made alike in the code, does not meet both statements.
-use Rattle.std.specs.Prelude.{◌≡◌, ◌↔◌, true, false, List, ◌∷◌, ◌++◌, ℕ, suc, ◌+◌, ◌-◌, ◌*◌, ◌≤◌, ◌<◌, min, pos, length, get_or, take, drop}
+use Rattle.std.specs.Prelude.{◌≡◌, ◌↔◌, true, false, List, ◌∷◌, ◌++◌, ℕ, suc, ◌+◌, ◌-◌, ◌*◌, ◌≤◌, ◌<◌, min, pos, length, get_or, set, take, drop}
 use Rattle.trace.specs.Lists.{Alike}
 use Rattle.trace.specs.Counts.{CountedSince}
-use Rattle.plants.specs.Plants.{Plant, place, elem}
+use Rattle.plants.specs.Plants.{Plant, place, elem, region_of}
 use Rattle.marks.specs.Numbers.{Numbered}
 use Rattle.points.specs.Statuses.{Status}
 use Rattle.points.specs.declared.Point.{Point}
-use Rattle.intervals.specs.Plants.{Group, unit, aggregate}
-use Rattle.intervals.specs.Headers.{interval_number, WellFormed}
+use Rattle.intervals.specs.Plants.{Group, unit, aggregate, group_region}
+use Rattle.intervals.specs.Headers.{interval_number, BitSet, Flipped, WellFormed}
 use Rattle.intervals.specs.declared.Monitor.{Monitor}
 use Rattle.operators.specs.Operators.{Operator, ask, look}
 use Rattle.monitor.specs.Calls.{Call, interval, operate, Outcome, refusal, reported, looked, answer, after}
@@ -51,6 +51,8 @@ pub data PointOf (plant : Plant) (j : ℕ) : ℕ → Type 0 where
 pub record Grouped (plant : Plant) : Type 0 where
   pub units : (u p : ℕ) → (names plant (unit u) p ≡ true) ↔ ((u < plant.units) × (p ≡ suc u))
   pub aggregates : (j p : ℕ) → (names plant (aggregate j) p ≡ true) ↔ PointOf plant j p
+  -- "All members of a chain share a region" (02, 2026-09): each point of a group has the group's
+  pub region : (g : Group) (p : ℕ) → names plant g p ≡ true → region_of plant (place p) ≡ group_region plant g
 
 -- an interval buffer with other 40 bytes in the place of the line of unit u
 abbrev pub rewritten : List ℕ → ℕ → List ℕ → List ℕ
@@ -69,6 +71,9 @@ pub record Covered (plant : Plant) (g : Group) : Type 0 where
   pub line : (buffer report line : List ℕ) (u : ℕ) → 1 ≤ u → u ≤ plant.units → names plant g u ≡ false
       → 8 + 40 * u ≤ length buffer → length line ≡ 40
       → Matched plant g (interval buffer report) (interval (rewritten buffer u line) report)
+  -- "flipping another region's bit": one of bits 0 to 4 of the mask at byte 4, and not the group's own
+  pub bit : (buffer report : List ℕ) (r mask : ℕ) → r ≤ 4 → ¬ (r ≡ group_region plant g) → 8 ≤ length buffer → Flipped r (get_or buffer 4 0) mask
+      → Matched plant g (interval buffer report) (interval (set buffer 4 mask) report)
 
 -- ==== The register's numbers
 
@@ -82,6 +87,10 @@ pub record RegisterNumbers (register : List ℕ) (plant : Plant) : Type 0 where
   pub nl : plant.large.not_responding ≡ get_or register 5 0
   pub pl : plant.large.pending ≡ get_or register 6 0
   pub dl : plant.large.declaration ≡ get_or register 7 0
+  -- "Byte 2 of a unit record becomes its region" (02, 2026-09), in the 4 bytes from 16 + 4(u - 1) on, and "All members of a chain share a region"
+  pub unit_region : (u : ℕ) → 1 ≤ u → u ≤ plant.units → region_of plant (place u) ≡ get_or register (16 + 4 * (u - 1) + 2) 0
+  pub member_region : (j i : ℕ) → elem i (plant.members j) ≡ true → region_of plant i ≡ region_of plant (plant.units + j)
+  pub regions : (p : ℕ) → region_of plant (place p) ≤ 4
 
 -- ==== Acceptance of intervals
 
@@ -115,9 +124,9 @@ SmallRun plant calls p = CountedSince (extend plant) (Marks plant p counts_small
 abbrev pub LargeRun : Plant → List Call → ℕ → ℕ → Type 0
 LargeRun plant calls p = CountedSince (extend plant) (Marks plant p counts_large) (Clears plant p clears_large) begin calls
 
--- the last interval that was accepted is in automatic mode: "mode (0 manual, 1 automatic)"
-pub record AutomaticLast (m : Monitor) (calls : List Call) : Type 0 where
-  pub found : Among m (λ buffer. get_or buffer 4 0 ≡ 1) calls
+-- the last interval that was accepted has a region in automatic mode: "bit r set means region r is automatic", of the mask at byte 4
+pub record AutomaticLast (m : Monitor) (region : ℕ) (calls : List Call) : Type 0 where
+  pub found : Among m (λ buffer. BitSet region (get_or buffer 4 0)) calls
   pub last : (mid rest : List Call) (buffer report : List ℕ) → found.later ≡ mid ++ (interval buffer report ∷ rest)
       → ¬ Accepted (after m (found.before ++ (interval found.buffer found.report ∷ mid))) buffer report
 
@@ -162,4 +171,4 @@ pub record Restated (register : List ℕ) (plant : Plant) (m : Monitor) : Type 0
       → Declared plant calls p → ShownDeclared q
   pub undeclared : (calls : List Call) (p small large : ℕ) (q : Point) → answer (after m calls) (operate (ask look) p) ≡ looked q
       → ¬ Declared plant calls p → SmallRun plant calls p small → LargeRun plant calls p large
-      → Undeclared plant (AutomaticLast m calls) q small large
+      → Undeclared plant (AutomaticLast m (region_of plant (place p)) calls) q small large

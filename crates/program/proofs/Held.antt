@@ -42,7 +42,7 @@ use Rattle.triggers.proofs.Thresholds.{small-bounded}
 use Rattle.points.specs.declared.Point.{Point}
 use Rattle.points.proofs.Levels.{level-after}
 use Rattle.intervals.specs.Plants.{total}
-use Rattle.intervals.specs.Assessments.{header_of, number_of, is_automatic, rule_of, sight_at, assessment_at}
+use Rattle.intervals.specs.Assessments.{header_of, number_of, mask_of, rule_at, sight_at, assessment_at}
 use Rattle.intervals.specs.Monitors.{roster_in, plant_in, kept_at, point_at, sound_of}
 use Rattle.intervals.specs.Intervals.{fresh_in, assessment_in, point_after}
 use Rattle.intervals.specs.declared.Monitor.{Monitor}
@@ -143,7 +143,7 @@ module _ (m : Monitor) (sound : sound_of m ≡ true) (buffer : List ℕ) where
   level_in : (i : ℕ) → i < total (plant_in m) → SFits w32 (point_at m i).level → SFits w32 (point_after m buffer i).level
   unfolding point_after
   level_in i l stored =
-      let rule = rule_of (plant_in m) (is_automatic (header_of buffer)) in
+      let rule = rule_at (plant_in m) (mask_of (header_of buffer)) i in
       level-after (SFits w32) rule (number_of (header_of buffer)) (assessment_in m buffer i) (point_at m i) stored
       (size_fits w32 (assessment_in m buffer i).level (small-in i l).level (lit< tt))
       (size_fits w32 (pos 0) {k = 0} (lit≤ tt) (lit< tt))
