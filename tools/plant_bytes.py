@@ -6,17 +6,25 @@ import struct
 GENERATING, LOAD, BIDIRECTIONAL, SEMI_SCHEDULED = 1, 2, 3, 4
 # Quality of a line's telemetry.
 GOOD, SUBSTITUTED, BAD = 0, 1, 2
-# Mode of an interval.
+# Mode of an interval: bit r is set where region r is automatic. These two are for a plant in region 0.
 MANUAL, AUTOMATIC = 0, 1
 
 
+def regions(*automatic):
+    """The mode of an interval in which these regions are automatic and the others manual."""
+    return sum(1 << region for region in {*automatic})
+
+
 def register(lengths, units, heads=()):
-    """lengths: Ns, Ps, Ds, Nl, Pl, Dl; units: (kind, next) each; heads: first member of each aggregate."""
+    """lengths: Ns, Ps, Ds, Nl, Pl, Dl; heads: first member of each aggregate.
+
+    units: (kind, next) each in region 0, or (kind, next, region).
+    """
     out = bytes([len(units), len(heads)])  # 0 unit count n; 1 aggregate count m
     out += bytes(lengths)  # 2-7 run lengths
     out += bytes(8)  # 8-15 zeros
-    for kind, following in units:
-        out += bytes([kind, following, 0, 0])  # kind, next, two zeros
+    for kind, following, *region in units:
+        out += bytes([kind, following, *(region or [0]), 0])  # kind, next, region, zero
     for head in heads:
         out += bytes([head, 0, 0, 0])  # first member, three zeros
     return out
@@ -42,6 +50,6 @@ def interval(number, mode, *lines):
     """An interval buffer, 8 + 40n bytes."""
     return (
         struct.pack("<I", number)  # 0 interval number
-        + bytes([mode, 0, 0, 0])  # 4 mode; 5-7 zeros
+        + bytes([mode, 0, 0, 0])  # 4 mode, a bit for each region; 5-7 zeros
         + b"".join(lines)
     )
