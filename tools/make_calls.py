@@ -311,10 +311,10 @@ def refusals_without_register():
                 load(register((2, 4, 4, 2, 3, 4), [one])), load(register((2, 3, 4, 1, 3, 4), [one])),
                 load(register((2, 3, 4, 3, 3, 4), [one])), load(register((2, 3, 4, 2, 4, 4), [one])),
                 load(register((2, 3, 4, 2, 3, 2), [(0, 9)]))),
-        # 4: kind 0, 5 and 255; spares of the header, of a unit and of a head.
+        # 4: kind 0, 5 and 255; region 5; spares of the header, of a unit and of a head.
         refused("load", 4, load(register(LENGTHS, [(0, 0)])), load(register(LENGTHS, [one, (5, 0)])),
                 load(register(LENGTHS, [sun, (255, 0)])), load(changed(ONE_UNIT, _8=1)), load(changed(ONE_UNIT, _15=128)),
-                load(changed(ONE_UNIT, _18=1)), load(changed(ONE_UNIT, _19=1)),
+                load(changed(ONE_UNIT, _18=5)), load(changed(ONE_UNIT, _19=1)),
                 load(changed(chained, _25=1)), load(changed(chained, _26=1)), load(changed(chained, _27=1))),
         # 4 over the whole register goes before 5: a spare in the last head, a next above n in the first unit.
         refused("load", 4, load(changed(chained, _27=1, _17=3))),
@@ -368,11 +368,11 @@ def refusals_with_register():
         # 8: either length, one byte off; an empty buffer and an empty report.
         refused("interval", 8, given(good[:-1], 48), given(good + b"\0", 48), given(good, 47), given(good, 49),
                 given(b"", 48), given(good, 0), given(b"", 0), given(good[:48], 48), given(good, 4_096)),
-        # 8 goes before 9: the report one byte short, and mode 2.
-        refused("interval", 8, given(headed(7, 2, 0, 0, 0), 47)),
-        # 9: mode 2 and 255; each spare.
+        # 8 goes before 9: the report one byte short, and mode 32.
+        refused("interval", 8, given(headed(7, 32, 0, 0, 0), 47)),
+        # 9: mode 32 and 255; each spare.
         refused("interval", 9, *[given(headed(7, *head), 48) for head in
-                                 [(2, 0, 0, 0), (255, 0, 0, 0), (1, 1, 0, 0), (0, 0, 1, 0), (1, 0, 0, 128)]]),
+                                 [(32, 0, 0, 0), (255, 0, 0, 0), (1, 1, 0, 0), (0, 0, 1, 0), (1, 0, 0, 128)]]),
         # None of them was accepted, so the first interval may still have any number, 7 too.
         accepted(good, "7 1 0 1 0 0 0 0 0", "7 2 0 1 0 0 0 0 0", "7 3 0 1 0 0 0 0 0"),
         # 21: the same number, and lower ones.
@@ -1690,7 +1690,7 @@ def reason_stays():
         refused("declare", 11, declare(1, -1), declare(3, 128_000_001)),
         refused("interval", 21, given(interval(305, AUTOMATIC, far, FAR), 48)),
         refused("interval", 8, given(interval(306, AUTOMATIC, far, FAR), 47)),
-        refused("interval", 9, given(interval(306, 2, far, FAR), 48)),
+        refused("interval", 9, given(interval(306, 32, far, FAR), 48)),
         refused("reason", 10, reason(0), reason(4)),
         *told,
         *looked,
@@ -1798,7 +1798,7 @@ def reason_refused_calls():
             refused("interval", 8, *[given(interval(number, AUTOMATIC, sent_line), 15) for number in (last + 1, last + 20)
                                      for sent_line in (FAR, ON)]),
             refused("interval", 8, given(interval(last + 1, AUTOMATIC, FAR, FAR), 16), given(b"", 16)),
-            refused("interval", 9, *[given(interval(number, 2, sent_line), 16) for number in (last + 1, last + 30)
+            refused("interval", 9, *[given(interval(number, 32, sent_line), 16) for number in (last + 1, last + 30)
                                      for sent_line in (FAR, ON)]),
             refused("interval", 21, *[given(interval(number, AUTOMATIC, sent_line), 16) for number in (last, last - 1, 0)
                                       for sent_line in (FAR, ON)]),
@@ -2361,7 +2361,7 @@ def target_between():
         return [
             *one_by_one("interval", 8, given(good, 63), given(good, 65), given(good[:-1], 64), given(good + b"\0", 64),
                         given(b"", 64), given(interval(number, AUTOMATIC, *unread), 48)),
-            *one_by_one("interval", 9, given(interval(number, 2, *other), 64), given(interval(number, 255, *unread), 64),
+            *one_by_one("interval", 9, given(interval(number, 32, *other), 64), given(interval(number, 255, *unread), 64),
                         given(good[:7] + b"\1" + good[8:], 64)),
             *one_by_one("load", 1, load(b""), load(registered[:-1])),
             *one_by_one("load", 2, load(bytes(16))),

@@ -466,8 +466,8 @@ def refused_8_at_once():
 
 
 def refused_9():
-    """Mode 2 in the second header, and its number not above the first: 9 goes before 21."""
-    return ONE_UNIT, [EXAMPLE_BUFFERS[0], interval(10, 2, plain(100.0)), EXAMPLE_BUFFERS[2]], EXAMPLE_LINES[:1] + ["refused 9"]
+    """Mode 32 in the second header, and its number not above the first: 9 goes before 21."""
+    return ONE_UNIT, [EXAMPLE_BUFFERS[0], interval(10, 32, plain(100.0)), EXAMPLE_BUFFERS[2]], EXAMPLE_LINES[:1] + ["refused 9"]
 
 
 def refused_21():
