@@ -805,10 +805,15 @@ def registers():
     refused("a unit in two chains", units_of([[1, 3], [2, 3]]), 6)
     refused("next in no chain", register(LENGTHS, [(GENERATING, 0), (GENERATING, 1)], [1]), 7)
     refused("kind 4 at the end of a chain of 60", units_of([rising(60)], kinds={60: SEMI_SCHEDULED}), 30)
+    refused("region 5", register(LENGTHS, [(GENERATING, 0, 5)], [1]), 4)
+    refused("a chain across regions", register(LENGTHS, [(GENERATING, 2, 3), (GENERATING, 0, 4)], [1]), 37)
     silent("one unit", register(LENGTHS, [(GENERATING, 0)]), [STRANGER])
     silent("one unit, unreadable", register(LENGTHS, [(GENERATING, 0)]), [STRANGER_UNREADABLE])
     silent("64 units", register(LENGTHS, [(1 + unit % 4, 0) for unit in range(64)]), [STRANGER])
     silent("64 units, all unreadable", register(LENGTHS, [(1 + unit % 4, 0) for unit in range(64)]), [STRANGER_UNREADABLE])
+    # Regions change no pass: 1 -> 2 in region 4, 3 in region 1.
+    regions = register(LENGTHS, [(GENERATING, 2, 4), (GENERATING, 0, 4), (GENERATING, 0, 1)], [1, 3])
+    put("two regions", regions, numbered([blank(2), CLEAR_1]), [ON_TARGET, UNREADABLE], [0, 1, 0])
     one_pass("behind a register without aggregates", rising(4), blank(2), ON_TARGET, {2: UNREADABLE})
 
 
