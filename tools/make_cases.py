@@ -5,9 +5,9 @@
     make_cases.py --check          compares the folders with what this script makes
     make_cases.py --check PROGRAM  and runs `PROGRAM FOLDER` on each, comparing its output with `expected`
 
-Every expected line is worked out by hand from the papers, 01 and of 02 the changes 2026-01 (kind 4) and 2026-02
-(levels); nothing here computes a mark or a level. A printed line is interval, point, status, mark (0 OFF, 1 BLANK,
-2 CLEAR, 3 DOUBT, 4 SMALL, 5 LARGE), small run, large run, error, small trigger, level.
+Every expected line is worked out by hand from the papers, 01 and of 02 the changes 2026-01 (kind 4), 2026-02 (levels)
+and 2026-09 (regions); nothing here computes a mark or a level. A printed line is interval, point, status, mark (0 OFF,
+1 BLANK, 2 CLEAR, 3 DOUBT, 4 SMALL, 5 LARGE), small run, large run, error, small trigger, level.
 """
 
 import pathlib
@@ -16,7 +16,7 @@ import sys
 
 import folders
 from plant_bytes import (AUTOMATIC, BAD, BIDIRECTIONAL, GENERATING, LOAD, MANUAL, SEMI_SCHEDULED, SUBSTITUTED, interval, line,
-                         register)
+                         regions, register)
 
 ROOT = pathlib.Path(__file__).resolve().parent.parent / "tests" / "program"
 LENGTHS = (2, 3, 4, 2, 3, 4)
@@ -455,6 +455,37 @@ def levels():
     )
 
 
+def two_regions():
+    """Chain 1 -> 2 (generating unit, load) with its aggregate, point 4, in region 3; generating unit 3 in region 1.
+
+    All triggers are as `wide` says, for the aggregate too: MWO max(200,000, 200,000), ROC max(9,000, 9,000). The load draws its
+    40 MW throughout. With unit 1 at 111,000 the aggregate has 71,000 against 60,000: both are 11,000 over, LARGE.
+    """
+    none, on = "0 1 0 0 0 0 0", "0 2 0 0 0 600000 0"
+    # Mode, MW of units 1 and 3; what is printed of points 1 to 4.
+    steps = [
+        (regions(1), 100.0, 100.0, none, none, none, none),
+        (regions(1), 111.0, 107.0, "1 5 1 1 11000 600000 0", on, "1 4 1 0 7000 600000 0", "1 5 1 1 11000 600000 0"),
+        (regions(1), 111.0, 107.0, "2 5 2 2 11000 600000 0", on, "2 4 2 0 7000 600000 0", "2 5 2 2 11000 600000 0"),
+        # Runs of 3: region 3 is manual and shows 2, region 1 automatic and shows 3.
+        (regions(1), 111.0, 107.0, "2 5 3 3 11000 600000 0", on, "3 4 3 0 7000 600000 0", "2 5 3 3 11000 600000 0"),
+        # Runs of 4: region 3 is automatic and declares, region 1 manual.
+        (regions(3), 111.0, 107.0, "4 5 0 0 11000 600000 111000", on, "2 4 4 0 7000 600000 0", "4 5 0 0 11000 600000 71000"),
+        (regions(3), 100.0, 111.0, "4 2 0 0 0 600000 111000", on, "2 5 5 1 11000 600000 0", "4 2 0 0 0 600000 71000"),
+        # Bits 0, 2 and 4 are those of regions without units.
+        (regions(0, 2, 3, 4), 100.0, 107.0, "4 2 0 0 0 600000 111000", on, "2 4 6 0 7000 600000 0", "4 2 0 0 0 600000 71000"),
+        # Region 1 is automatic: small run 7. Points 1 and 4 stay declared in manual mode.
+        (regions(1), 111.0, 107.5, "4 5 0 0 11000 600000 111000", on, "4 4 0 0 7500 600000 107500", "4 5 0 0 11000 600000 71000"),
+        (regions(*range(5)), 100.0, 100.0, "4 2 0 0 0 600000 111000", on, "4 2 0 0 0 600000 107500", "4 2 0 0 0 600000 71000"),
+    ]
+    load = wide(40.0, mwb=40_000, mode=2)
+    return (
+        register(LENGTHS, [(GENERATING, 2, 3), (LOAD, 0, 3), (GENERATING, 0, 1)], [1]),
+        [interval(number, mode, wide(one, mode=2), load, wide(three)) for number, (mode, one, three, *_) in enumerate(steps, 1)],
+        [f"{number} {point} {text}" for number, step in enumerate(steps, 1) for point, text in enumerate(step[3:], 1)],
+    )
+
+
 def refused_8_short_last():
     """The last buffer is 47 bytes."""
     return ONE_UNIT, EXAMPLE_BUFFERS[:2] + [EXAMPLE_BUFFERS[2][:47]], EXAMPLE_LINES[:2] + ["refused 8"]
@@ -503,7 +534,7 @@ def changed(contents, *places):
     return bytes(out)
 
 
-# Units 1 -> 2 in a chain, 3 in none: header 0-15, units at 16, 20, 24, head at 28.
+# Units 1 -> 2 in a chain, 3 in none: header 0-15, units at 16, 20, 24, head at 28. A unit's region is its third byte.
 CHAIN_REGISTER = register(LENGTHS, [(GENERATING, 2), (LOAD, 0), (BIDIRECTIONAL, 0)], [1])
 
 # Chains 1 -> 2 -> 3 -> 4, 5 -> 6 -> 7 -> 8, ..: the longest register, 336 bytes.
@@ -537,6 +568,7 @@ CASES = {
     "solar_alone": solar_alone,
     "tripped": tripped,
     "levels": levels,
+    "two_regions": two_regions,
     "refused_8_short_last": refused_8_short_last,
     "refused_8_at_once": refused_8_at_once,
     "refused_9": refused_9,
@@ -552,14 +584,21 @@ CASES = {
     "register_2_before_length": register_refusal(2, changed(CHAIN_REGISTER[:20], (1, 17))),
     "register_3": register_refusal(3, changed(CHAIN_REGISTER, (3, 4), (16, 0))),  # Ps = Ds; and an unknown kind
     "register_4_kind": register_refusal(4, changed(CHAIN_REGISTER, (24, 5))),
+    "register_4_region": register_refusal(4, changed(CHAIN_REGISTER, (26, 5))),  # unit 3, in no chain
+    "register_4_unit_spare": register_refusal(4, changed(CHAIN_REGISTER, (26, 4), (27, 4))),  # unit 3, in region 4
+    "register_4_before_37": register_refusal(4, changed(CHAIN_REGISTER, (22, 5))),  # unit 2, at the end of the chain
     "register_4_last_spare": register_refusal(4, changed(CHAIN_REGISTER, (31, 1), (17, 9))),  # goes before the index
     "register_5_next": register_refusal(5, changed(CHAIN_REGISTER, (25, 4), (21, 1))),  # unit 3, met by no chain
     "register_5_head": register_refusal(5, changed(CHAIN_REGISTER, (28, 0))),
     "register_6_loop": register_refusal(6, changed(CHAIN_REGISTER, (21, 1), (25, 3))),  # 2 -> 1; and unit 3's next
     "register_7": register_refusal(7, changed(CHAIN_REGISTER, (25, 3))),
     "register_7_before_30": register_refusal(7, changed(CHAIN_REGISTER, (20, 4), (25, 3))),  # unit 2 of kind 4; unit 3's next
+    "register_7_before_37": register_refusal(7, changed(CHAIN_REGISTER, (22, 1), (25, 3))),  # unit 2's region; unit 3's next
     "register_30": register_refusal(30, changed(CHAIN_REGISTER, (20, 4))),  # unit 2, at the end of the chain
     "register_30_head": register_refusal(30, changed(CHAIN_REGISTER, (16, 4), (24, 4))),  # unit 1; unit 3 may be of kind 4
+    "register_30_before_37": register_refusal(30, changed(CHAIN_REGISTER, (20, 4), (22, 1))),  # unit 2, of kind 4 in region 1
+    "register_37": register_refusal(37, changed(CHAIN_REGISTER, (22, 1))),  # unit 2, at the end of the chain
+    "register_37_head": register_refusal(37, changed(CHAIN_REGISTER, (18, 4), (26, 3))),  # unit 1; unit 3 may be in any region
 }
 
 
