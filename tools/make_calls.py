@@ -6,12 +6,13 @@
                             group that two lists share, `alike_1` and `alike_2` among them, are not equal
 
 Every expected line is worked out by hand from 01, for kind 4 from 02, 2026-01, for levels from 02, 2026-02, for reasons from
-02, 2026-06, and for targets from 02, 2026-07; 02, 2026-08 changes none of them. Nothing here computes a mark, a level, a reason
-or a sum over members, and no monitor is run. A step of a list is a call's bytes and the lines that it prints. A point's line is
-interval, point, status (0 Normal, 1 Off-Target, 2 Not-Responding, 3 NC-Pending, 4 Non-Conforming), mark (0 OFF, 1 BLANK, 2
-CLEAR, 3 DOUBT, 4 SMALL, 5 LARGE), small run, large run, error, small trigger, level. A reason is small, large or operator, then
-the numbers of the first mark counted in that run and of the declaring mark. A target is the sum of MWB, loads subtracted, then
-those of FCR and of FCL, over the members that have a kept line, and then 1 where every member has one, 0 otherwise.
+02, 2026-06, for targets from 02, 2026-07, and for regions from 02, 2026-09; 02, 2026-08 changes none of them. Nothing here
+computes a mark, a level, a reason or a sum over members, and no monitor is run. A step of a list is a call's bytes and the lines
+that it prints. A point's line is interval, point, status (0 Normal, 1 Off-Target, 2 Not-Responding, 3 NC-Pending, 4
+Non-Conforming), mark (0 OFF, 1 BLANK, 2 CLEAR, 3 DOUBT, 4 SMALL, 5 LARGE), small run, large run, error, small trigger, level. A
+reason is small, large or operator, then the numbers of the first mark counted in that run and of the declaring mark. A target is
+the sum of MWB, loads subtracted, then those of FCR and of FCL, over the members that have a kept line, and then 1 where every
+member has one, 0 otherwise.
 
 tests/calls/alike_*/group has the numbers of the output's lines that belong to the group, one a line. Two lists that are alike
 have one name but for its end, _1 and _2.
@@ -22,7 +23,7 @@ import struct
 import sys
 
 from plant_bytes import (AUTOMATIC, BAD, BIDIRECTIONAL, GENERATING, LOAD, MANUAL, SEMI_SCHEDULED, SUBSTITUTED, interval, line,
-                         register)
+                         regions, register)
 
 ROOT = pathlib.Path(__file__).resolve().parent.parent
 LENGTHS = (2, 3, 4, 2, 3, 4)  # Ns, Ps, Ds, Nl, Pl, Dl
@@ -3310,6 +3311,521 @@ def side_by_side_regrouped():
     return steps
 
 
+# ---- regions (02, 2026-09)
+
+
+def over_7(status, run):
+    """A unit in no chain that is 7,000 over, SMALL, and what is printed of it while it is not declared."""
+    return OVER, f"{status} 4 {run} 0 7000 600000 0"
+
+
+def over_11(status, small, large):
+    """The same of one that is 11,000 over, LARGE."""
+    return FAR, f"{status} 5 {small} {large} 11000 600000 0"
+
+
+def regions_masks():
+    """Unit 1 in region 0 and unit 2 in region 4, in no chain. Each mode up to 31 is accepted, and each above it gives 9."""
+    registered = register(LENGTHS, [(GENERATING, 0, 0), (GENERATING, 0, 4)])
+    none, without_units = (ON, "0 1 0 0 0 0 0"), regions(1, 2, 3)
+
+    def nine(number):
+        """33, 48 and 63 have the bit of region 0, that of region 4 and both. Then each spare beside 31. Both units are LARGE."""
+        good = interval(number, 31, FAR, FAR)
+        modes = 32, 33, 48, 63, 64, 128, 159, 255
+        return refused("interval", 9, *[given(interval(number, mode, FAR, FAR), 32) for mode in modes],
+                       *[given(good[:place] + b"\1" + good[place + 1:], 32) for place in (5, 6, 7)])
+
+    steps = [
+        # 20 goes before 9.
+        refused("interval", 20, *[given(interval(7, mode, FAR, FAR), 32) for mode in (31, 32, 255)]),
+        (load(registered), "load accepted 0"),
+        nine(7),
+        # 8 goes before 9: the report one byte short; one line too few.
+        refused("interval", 8, given(interval(7, 32, ON, ON), 31), given(interval(7, 255, ON), 32)),
+        # None of them was accepted: the first interval may have any number.
+        taken(7, 31, none, none),
+        # 9 goes before 21.
+        refused("interval", 9, given(interval(7, 32, FAR, FAR), 32), given(interval(0, 255, FAR, FAR), 32)),
+        refused("interval", 21, given(interval(7, 31, FAR, FAR), 32), given(interval(6, 14, FAR, FAR), 32)),
+        # The bits of regions without units: both units are in manual mode.
+        taken(8, without_units, over_7(1, 1), over_7(1, 1)),
+        taken(9, without_units, over_7(2, 2), over_7(2, 2)),
+        taken(10, without_units, over_7(2, 3), over_7(2, 3)),
+        nine(11),
+        *looks("2 3 0 0", "2 3 0 0"),
+    ]
+    # BLANK leaves the runs, and the status shows the mode. Bit 0 is set in the odd modes, bit 4 in those from 16 on.
+    for mode in range(32):
+        one, two = 3 if mode % 2 else 2, 3 if mode >= 16 else 2
+        steps.append(taken(11 + mode, mode, (BAD_LINE, f"{one} 1 3 0 0 0 0"), (BAD_LINE, f"{two} 1 3 0 0 0 0")))
+    declared, on = (OVER, "4 4 0 0 7000 600000 107000"), (ON, "4 2 0 0 0 600000 107000")
+    return steps + [
+        nine(43),
+        *looks("3 3 0 0", "3 3 0 0"),
+        # Small run 4 = Ds in manual mode; then refused intervals, which declare nothing either.
+        taken(43, without_units, over_7(2, 4), over_7(2, 4)),
+        nine(44),
+        *looks("2 4 0 0", "2 4 0 0"),
+        *reasons(None, None),
+        # No number was taken by them: 44 follows 43.
+        taken(44, 31, declared, declared),
+        *reasons("small 8 44", "small 8 44"),
+        nine(45),
+        *standing(107_000, 107_000),
+        taken(45, 0, on, on),
+    ]
+
+
+def regions_opposite():
+    """Unit 1 in region 1 and unit 2 in region 3, in no chain, with the same lines and opposite modes throughout."""
+    first, second = regions(1), regions(3)  # the region that is automatic is that of unit 1, or that of unit 2
+    none = ON, "0 1 0 0 0 0 0"
+    small_107, large_107 = (OVER, "4 4 0 0 7000 600000 107000"), (FAR, "4 5 0 0 11000 600000 107000")
+    return [
+        (load(register(LENGTHS, [(GENERATING, 0, 1), (GENERATING, 0, 3)])), "load accepted 0"),
+        taken(1, first, none, none),
+        taken(2, first, over_7(1, 1), over_7(1, 1)),
+        taken(3, first, over_7(2, 2), over_7(2, 2)),
+        # Small run 3 = Ps: manual mode shows 2.
+        taken(4, first, over_7(3, 3), over_7(2, 3)),
+        *looks("3 3 0 0", "2 3 0 0"),
+        # DOUBT, with the modes the other way round.
+        taken(5, second, (UNSURE, "2 3 3 0 11000 600000 0"), (UNSURE, "3 3 3 0 11000 600000 0")),
+        *looks("2 3 0 0", "3 3 0 0"),
+        # Small run 4 = Ds: the mark that declares unit 1 does not declare unit 2, nor does a LARGE after it.
+        taken(6, first, small_107, over_7(2, 4)),
+        taken(7, first, large_107, over_11(2, 5, 1)),
+        *looks("4 0 0 107000", "2 5 1 0"),
+        *reasons("small 2 6", None),
+        # BLANK in automatic mode declares nothing.
+        taken(8, second, (BAD_LINE, "4 1 0 0 0 0 107000"), (BAD_LINE, "3 1 5 1 0 0 0")),
+        *reasons("small 2 6", None),
+        # Small run 6. Unit 1 stays declared in manual mode.
+        taken(9, second, small_107, small_107),
+        *reasons("small 2 6", "small 2 9"),
+        *reinstated(1, 2),
+        # Unit 2 alone in automatic mode. Large run 3 = Pl, then 4 = Dl.
+        taken(10, second, over_11(1, 1, 1), over_11(1, 1, 1)),
+        taken(11, second, over_11(2, 2, 2), over_11(2, 2, 2)),
+        taken(12, second, over_11(2, 3, 3), over_11(3, 3, 3)),
+        refused("reinstate", 23, reinstate(1), reinstate(2)),
+        taken(13, second, over_11(2, 4, 4), (FAR, "4 5 0 0 11000 600000 111000")),
+        *reasons(None, "large 10 13"),
+        # The operator declares unit 1 at the 2 that manual mode shows.
+        (declare(1, 90_000), "declare accepted"),
+        *reasons("operator 0 0", "large 10 13"),
+        taken(14, first, (FAR, "4 5 0 0 11000 600000 90000"), (FAR, "4 5 0 0 11000 600000 111000")),
+        *reinstated(1, 2),
+        taken(15, first, over_11(1, 1, 1), over_11(1, 1, 1)),
+        taken(16, first, over_11(2, 2, 2), over_11(2, 2, 2)),
+        taken(17, first, over_11(3, 3, 3), over_11(2, 3, 3)),
+        # And at 3 in automatic mode, beside unit 2 at 2.
+        (declare(1, 1), "declare accepted"),
+        (declare(2, 2), "declare accepted"),
+        *standing(1, 2),
+        *reasons("operator 0 0", "operator 0 0"),
+    ]
+
+
+def regions_flipped():
+    """Units 1 and 2 in region 2, unit 3 in region 0, in no chain. Bits change between two intervals."""
+    none, clear_107, clear_111 = (ON, "0 1 0 0 0 0 0"), (ON, "4 2 0 0 0 600000 107000"), (ON, "4 2 0 0 0 600000 111000")
+    small_107, large_111 = (OVER, "4 4 0 0 7000 600000 107000"), (FAR, "4 5 0 0 11000 600000 111000")
+    return [
+        (load(register(LENGTHS, [(GENERATING, 0, 2), (GENERATING, 0, 2), (GENERATING, 0, 0)])), "load accepted 0"),
+        # Region 0 alone is automatic: unit 3 is declared at small run 4, and a backlog comes about in region 2.
+        taken(100, regions(0), none, none, none),
+        taken(101, regions(0), over_7(1, 1), over_11(1, 1, 1), over_7(1, 1)),
+        taken(102, regions(0), over_7(2, 2), over_11(2, 2, 2), over_7(2, 2)),
+        taken(103, regions(0), over_7(2, 3), over_11(2, 3, 3), over_7(3, 3)),
+        taken(104, regions(0), over_7(2, 4), over_11(2, 4, 4), small_107),
+        # All are manual: unit 3 stays declared.
+        taken(105, regions(), over_7(2, 5), over_11(2, 5, 5), clear_107),
+        *reasons(None, None, "small 101 104"),
+        # Bit 2 is set: BLANK and DOUBT show 3 and declare nothing. Bit 2 alone is cleared: 2 once more.
+        taken(106, regions(2), (BAD_LINE, "3 1 5 0 0 0 0"), (UNSURE, "3 3 5 5 11000 600000 0"), clear_107),
+        *looks("3 5 0 0", "3 5 5 0", "4 0 0 107000"),
+        taken(107, regions(0, 1, 3, 4), (BAD_LINE, "2 1 5 0 0 0 0"), (UNSURE, "2 3 5 5 11000 600000 0"), clear_107),
+        *reasons(None, None, "small 101 104"),
+        # Bit 2 is set: the next LARGE and the next SMALL declare. Unit 1: runs 6 and 1. Unit 2: SMALL, runs 6 and 0.
+        taken(108, regions(2), large_111, small_107, clear_107),
+        *reasons("small 101 108", "small 101 108", "small 101 104"),
+        *reinstated(1, 2, 3),
+        # All three LARGE. Region 2 is manual, automatic, manual and automatic; region 0 is automatic at the two in the midst.
+        taken(109, regions(1, 3), over_11(1, 1, 1), over_11(1, 1, 1), over_11(1, 1, 1)),
+        taken(110, regions(0, 2), over_11(2, 2, 2), over_11(2, 2, 2), over_11(2, 2, 2)),
+        taken(111, regions(0), over_11(2, 3, 3), over_11(2, 3, 3), over_11(3, 3, 3)),
+        taken(112, regions(2), large_111, large_111, over_11(2, 4, 4)),
+        *reasons("large 109 112", "large 109 112", None),
+        # CLEAR in automatic mode: nothing is left of unit 3's backlog.
+        taken(113, regions(0), clear_111, clear_111, (ON, "0 2 0 0 0 600000 0")),
+        taken(114, regions(0), clear_111, clear_111, over_11(1, 1, 1)),
+        *looks("4 0 0 111000", "4 0 0 111000", "1 1 1 0"),
+    ]
+
+
+def regions_each():
+    """Units 1 to 5, in no chain, in regions 3, 0, 4, 1 and 2. The unit in region 0 is unit 2, that in 1 is 4, in 2 it is 5, in 3 it
+    is 1, and in 4 it is 3."""
+    units = [(GENERATING, 0, region) for region in (3, 0, 4, 1, 2)]
+    unit_of = 2, 4, 5, 1, 3
+    declared, declared_107 = (FAR, "4 5 0 0 11000 600000 111000"), (OVER, "4 4 0 0 7000 600000 107000")
+    every = regions(0, 1, 2, 3, 4)
+
+    def but(region):
+        return regions(*{0, 1, 2, 3, 4} - {region})
+
+    def all_but(usual, units_with):
+        """The same of each unit, unless `units_with` has another."""
+        return [units_with.get(unit, usual) for unit in range(1, 6)]
+
+    steps = [
+        (load(register(LENGTHS, units)), "load accepted 0"),
+        taken(1, regions(), *[(ON, "0 1 0 0 0 0 0")] * 5),
+        taken(2, regions(), *[over_11(1, 1, 1)] * 5),
+        taken(3, regions(), *[over_11(2, 2, 2)] * 5),
+        taken(4, regions(), *[over_11(2, 3, 3)] * 5),
+        taken(5, regions(), *[over_11(2, 4, 4)] * 5),
+        # One bit alone each time declares one unit alone: region 0, 1, and so on.
+        taken(6, regions(0), over_11(2, 5, 5), declared, over_11(2, 5, 5), over_11(2, 5, 5), over_11(2, 5, 5)),
+        taken(7, regions(1), over_11(2, 6, 6), declared, over_11(2, 6, 6), declared, over_11(2, 6, 6)),
+        taken(8, regions(2), over_11(2, 7, 7), declared, over_11(2, 7, 7), declared, declared),
+        taken(9, regions(3), declared, declared, over_11(2, 8, 8), declared, declared),
+        *reasons("large 2 9", "large 2 6", None, "large 2 7", "large 2 8"),
+        taken(10, regions(4), *[declared] * 5),
+        *reasons("large 2 9", "large 2 6", "large 2 10", "large 2 7", "large 2 8"),
+        *reinstated(1, 2, 3, 4, 5),
+        # All are automatic: 3 at small run 3.
+        taken(11, every, *[over_7(1, 1)] * 5),
+        taken(12, every, *[over_7(2, 2)] * 5),
+        taken(13, every, *[over_7(3, 3)] * 5),
+    ]
+    # BLANK: one bit alone shows 3 of one unit alone, and all bits but one show 2 of one unit alone.
+    manual, automatic = (BAD_LINE, "2 1 3 0 0 0 0"), (BAD_LINE, "3 1 3 0 0 0 0")
+    for region, unit in enumerate(unit_of):
+        steps.append(taken(14 + region, regions(region), *all_but(manual, {unit: automatic})))
+    for region, unit in enumerate(unit_of):
+        steps.append(taken(19 + region, but(region), *all_but(automatic, {unit: manual})))
+    return steps + [
+        # Small run 4, then 5: region 2 is manual, then it is not.
+        taken(24, but(2), *all_but(declared_107, {5: over_7(2, 4)})),
+        *reasons("small 11 24", "small 11 24", "small 11 24", "small 11 24", None),
+        taken(25, but(0), *[declared_107] * 5),
+        *reasons("small 11 24", "small 11 24", "small 11 24", "small 11 24", "small 11 25"),
+    ]
+
+
+def regions_of_aggregates():
+    """An aggregate is in its members' region. Chain 5 -> 2 (generating unit, load) in region 3 is point 6, chain 3 -> 4 (the same)
+    in region 1 point 7; generating unit 1 in no chain, in region 0.
+
+    Targets are 100,000 and 40,000 and the aggregates' 60,000, so their triggers are as `wide` says: MWO max(200,000, 200,000),
+    ROC max(9,000, 9,000). Both chains have the same MW.
+    """
+    units = [(GENERATING, 0, 0), (LOAD, 0, 3), (GENERATING, 4, 1), (LOAD, 0, 1), (GENERATING, 2, 3)]
+    none, on, low = "0 1 0 0 0 0 0", "0 2 0 0 0 600000 0", "0 2 0 0 -5000 600000 0"
+    large_111, large_71, small_70 = "4 5 0 0 11000 600000 111000", "4 5 0 0 11000 600000 71000", "4 4 0 0 10000 600000 70000"
+    clear_111 = "4 2 0 0 5000 600000 111000"
+
+    def at(number, mode, first, generating, drawn, texts, **changes):
+        """MW of unit 1, of the generating members and of the loads; what is printed of points 1 to 7."""
+        load_line, member = wide(drawn, mwb=40_000, mode=2, **changes), wide(generating, mode=2)
+        return accepted(interval(number, mode, wide(first), load_line, member, load_line, member), *numbered(number, texts))
+
+    def large(status, run):
+        return f"{status} 5 {run} {run} 11000 600000 0"
+
+    def small(status, run):
+        return f"{status} 4 {run} 0 10000 600000 0"
+
+    return [
+        (load(register(LENGTHS, units, [5, 3])), "load accepted 4"),
+        at(1, regions(3), 100.0, 100.0, 40.0, [none] * 7),
+        # 111,000 - 100,000, and 111,000 - 40,000 - 60,000: LARGE.
+        at(2, regions(3), 111.0, 111.0, 40.0, [large(1, 1), on, large(1, 1), on, large(1, 1), large(1, 1), large(1, 1)]),
+        at(3, regions(3), 111.0, 111.0, 40.0, [large(2, 2), on, large(2, 2), on, large(2, 2), large(2, 2), large(2, 2)]),
+        # Run 3: region 3 alone shows 3. Run 4: it alone declares, unit 5 and its aggregate.
+        at(4, regions(3), 111.0, 111.0, 40.0, [large(2, 3), on, large(2, 3), on, large(3, 3), large(3, 3), large(2, 3)]),
+        at(5, regions(3), 111.0, 111.0, 40.0, [large(2, 4), on, large(2, 4), on, large_111, large_71, large(2, 4)]),
+        *looks("2 4 4 0", "0 0 0 0", "2 4 4 0", "0 0 0 0", "4 0 0 111000", "4 0 0 71000", "2 4 4 0"),
+        *reasons(None, None, None, None, "large 2 5", "large 2 5", None),
+        # Region 1 alone: unit 3 and its aggregate.
+        at(6, regions(1), 111.0, 111.0, 40.0, [large(2, 5), on, large_111, on, large_111, large_71, large_71]),
+        *reasons(None, None, "large 2 6", None, "large 2 5", "large 2 5", "large 2 6"),
+        *targets(6, "60000 0 0 1", "60000 0 0 1"),
+        # The aggregates alone: 5,000 and -5,000 are CLEAR, 105,000 - 35,000 - 60,000 = 10,000 is SMALL.
+        *reinstated(6, 7),
+        at(7, regions(1), 100.0, 105.0, 35.0, [on, low, clear_111, low, clear_111, small(1, 1), small(1, 1)]),
+        at(8, regions(1), 100.0, 105.0, 35.0, [on, low, clear_111, low, clear_111, small(2, 2), small(2, 2)]),
+        at(9, regions(1), 100.0, 105.0, 35.0, [on, low, clear_111, low, clear_111, small(2, 3), small(3, 3)]),
+        # The loads are bad: BLANK, and the modes are the other way round.
+        at(10, regions(3), 100.0, 105.0, 0.0, [on, none, clear_111, none, clear_111, "3 1 3 0 0 0 0", "2 1 3 0 0 0 0"],
+           quality=BAD),
+        # All but region 3: point 7 at 105,000 - 35,000. Then region 3 alone: point 6.
+        at(11, regions(0, 1, 2, 4), 100.0, 105.0, 35.0, [on, low, clear_111, low, clear_111, small(2, 4), small_70]),
+        *looks("0 0 0 0", "0 0 0 0", "4 0 0 111000", "0 0 0 0", "4 0 0 111000", "2 4 0 0", "4 0 0 70000"),
+        at(12, regions(3), 100.0, 105.0, 35.0, [on, low, clear_111, low, clear_111, small_70, small_70]),
+        *reasons(None, None, "large 2 6", None, "large 2 5", "small 7 12", "small 7 11"),
+    ]
+
+
+def regions_reasons():
+    """Unit 1 in region 1 and unit 2 in region 2, in no chain. Which run is told, and which mark, goes by the bit of the point's own
+    region. Small run 2, 3, 4; large run 2, 3, 4."""
+    none, large_111 = (ON, "0 1 0 0 0 0 0"), (FAR, "4 5 0 0 11000 600000 111000")
+    clear_111, small_111 = (ON, "4 2 0 0 0 600000 111000"), (OVER, "4 4 0 0 7000 600000 111000")
+    told = reasons("small 201 204", "large 202 205")
+    return [
+        (load(register(LENGTHS, [(GENERATING, 0, 1), (GENERATING, 0, 2)])), "load accepted 0"),
+        taken(200, regions(1), none, none),
+        taken(201, regions(1), over_7(1, 1), over_7(1, 1)),
+        taken(202, regions(1), over_11(2, 2, 1), over_11(2, 2, 1)),
+        taken(203, regions(1), over_11(3, 3, 2), over_11(2, 3, 2)),
+        # Unit 1: runs 4 and 3.
+        taken(204, regions(1), large_111, over_11(2, 4, 3)),
+        *reasons("small 201 204", None),
+        # Unit 2: runs 5 and 4, both.
+        taken(205, regions(1, 2), large_111, large_111),
+        *told,
+        # The reasons stand whatever the modes are.
+        taken(206, regions(), clear_111, clear_111),
+        *told,
+        taken(207, regions(2), small_111, large_111),
+        *told,
+        taken(208, regions(0, 3, 4), large_111, small_111),
+        *told,
+        *reinstated(1, 2),
+        *reasons(None, None),
+        taken(209, regions(1), over_11(1, 1, 1), over_11(1, 1, 1)),
+        taken(210, regions(1), over_11(2, 2, 2), over_11(2, 2, 2)),
+        # The operator declares unit 2; region 2's bit, set later, leaves that.
+        (declare(2, 5), "declare accepted"),
+        *reasons(None, "operator 0 0"),
+        taken(211, regions(2), over_11(2, 3, 3), (FAR, "4 5 0 0 11000 600000 5")),
+        taken(212, regions(2), over_11(2, 4, 4), (FAR, "4 5 0 0 11000 600000 5")),
+        taken(213, regions(2), over_11(2, 5, 5), (FAR, "4 5 0 0 11000 600000 5")),
+        *reasons(None, "operator 0 0"),
+        # Unit 1: runs 6 and 6.
+        taken(214, regions(1), large_111, (FAR, "4 5 0 0 11000 600000 5")),
+        *reasons("large 209 214", "operator 0 0"),
+    ]
+
+
+def regions_loads():
+    """4 for a region above 4 and for byte 3 of a unit, 37 for a chain across regions, and what goes before them."""
+    sun = SEMI_SCHEDULED
+
+    def sent(*units, heads=()):
+        """Units of kind 1, or as given: next, region and kind."""
+        records = [(kind[0] if kind else GENERATING, following, region) for following, region, *kind in units]
+        return load(register(LENGTHS, records, heads))
+
+    def with_byte(place, value, *units, heads=()):
+        out = bytearray(register(LENGTHS, [(GENERATING, *unit) for unit in units], heads))
+        out[place] = value
+        return load(bytes(out))
+
+    return [
+        # 4: regions above 4 in the one unit; in the first and in the last of three; in all of a chain; of each kind.
+        refused("load", 4, *[sent((0, region)) for region in (5, 6, 7, 8, 16, 31, 32, 128, 255)]),
+        refused("load", 4, sent((0, 5), (0, 0), (0, 0)), sent((0, 0), (0, 0), (0, 255)), sent((2, 5), (0, 5), heads=[1]),
+                sent((0, 5, LOAD)), sent((0, 5, BIDIRECTIONAL)), sent((0, 5, sun))),
+        # 4: byte 3 of a unit, at 19 and 23, alone and beside a region.
+        refused("load", 4, with_byte(19, 1, (0, 0)), with_byte(19, 255, (0, 4)), with_byte(23, 1, (2, 3), (0, 3), heads=[1]),
+                with_byte(23, 3, (0, 3), (0, 3))),
+        # 1 to 3 go before 4, and 4 over the whole register before 5, 6, 7, 30 and 37.
+        refused("load", 1, load(register(LENGTHS, [(GENERATING, 0, 5)]) + b"\0")),
+        refused("load", 2, load(register(LENGTHS, [(GENERATING, 0, 5)] * 65))),
+        refused("load", 3, load(register((2, 3, 3, 2, 3, 4), [(GENERATING, 0, 5)]))),
+        refused("load", 4, sent((3, 0), (0, 5)), sent((0, 0), (0, 5), heads=[1, 1]), sent((0, 0), (1, 0), (0, 5), heads=[1]),
+                sent((0, 0, sun), (0, 5), heads=[1]), sent((2, 0), (0, 1), (0, 5), heads=[1]), sent((2, 0), (0, 5), heads=[1]),
+                sent((0, 5), (3, 0), (0, 1), heads=[2])),
+        # 5, 6, 7 and 30 go before 37: a chain across regions, and a next above n, a head 0; two equal heads, a loop of that chain;
+        # a next behind it and before it that no chain met; kind 4 in it, and in another chain behind it and before it.
+        refused("load", 5, sent((2, 0), (0, 1), (4, 0), heads=[1]), sent((2, 0), (0, 1), heads=[1, 0])),
+        refused("load", 6, sent((2, 0), (0, 1), heads=[1, 1]), sent((2, 0), (1, 1), heads=[1])),
+        refused("load", 7, sent((2, 0), (0, 1), (1, 0), heads=[1]), sent((3, 0), (3, 0), (0, 1), heads=[2])),
+        refused("load", 30, sent((2, 0, sun), (0, 1), heads=[1]), sent((2, 0), (0, 1, sun), heads=[1]),
+                sent((2, 0), (0, 1), (0, 0, sun), heads=[1, 3]), sent((0, 0, sun), (3, 0), (0, 1), heads=[1, 2])),
+        # 37: a chain of two either way and in any two regions, up and down.
+        refused("load", 37, sent((2, 0), (0, 1), heads=[1]), sent((2, 1), (0, 0), heads=[1]), sent((2, 3), (0, 4), heads=[1]),
+                sent((2, 4), (0, 2), heads=[1]), sent((0, 0), (1, 1), heads=[2])),
+        # Of three the first, the middle and the last; each of them in a region of its own; past a unit in its head's region.
+        refused("load", 37, sent((2, 1), (3, 0), (0, 0), heads=[1]), sent((2, 0), (3, 1), (0, 0), heads=[1]),
+                sent((2, 0), (3, 0), (0, 1), heads=[1]), sent((2, 4), (3, 3), (0, 2), heads=[1]),
+                sent((3, 2), (0, 2), (0, 1), heads=[1])),
+        # The first of three chains, and the last by its last member alone; a load and a bidirectional unit; kind 4 in no chain.
+        refused("load", 37, sent((2, 1), (0, 2), (4, 2), (0, 2), (6, 2), (0, 2), heads=[1, 3, 5]),
+                sent((2, 2), (0, 2), (4, 3), (0, 3), (6, 4), (0, 3), heads=[1, 3, 5]),
+                sent((2, 0, LOAD), (0, 1, BIDIRECTIONAL), heads=[1]), sent((2, 0), (0, 1), (0, 1, sun), heads=[1])),
+        # None of them left a register.
+        refused("look", 20, look(1)),
+        # Units in no chain may be in any regions; so may whole chains, and what a chain passes over.
+        (sent((0, 0), (0, 1, LOAD), (0, 2, BIDIRECTIONAL), (0, 3, sun), (0, 4)), "load accepted 0"),
+        *looks(*["0 0 0 0"] * 5),
+        (sent((2, 4), (0, 4, LOAD), (4, 1), (0, 1, BIDIRECTIONAL), (0, 2, sun), heads=[1, 3]), "load accepted 4"),
+        (sent((3, 1), (0, 2), (0, 1), heads=[1]), "load accepted 2"),
+        (sent((0, 3), (1, 3), heads=[2]), "load accepted 2"),
+        (sent((0, 4), heads=[1]), "load accepted 1"),
+        refused("load", 37, sent((2, 4), (0, 3), (0, 3), heads=[1])),
+        refused("look", 10, look(3)),
+    ]
+
+
+def regions_load_again():
+    """Units in no chain, or one chain. A point's region goes by the register loaded last; a refused one changes none."""
+    def to_run_3(one, two):
+        """Region 1 alone is automatic; statuses of units 1 and 2 at small run 3. A load starts afresh, and so do the numbers."""
+        return [
+            taken(1, regions(1), (ON, "0 1 0 0 0 0 0"), (ON, "0 1 0 0 0 0 0")),
+            taken(2, regions(1), over_7(1, 1), over_7(1, 1)),
+            taken(3, regions(1), over_7(2, 2), over_7(2, 2)),
+            taken(4, regions(1), over_7(one, 3), over_7(two, 3)),
+        ]
+
+    declared = OVER, "4 4 0 0 7000 600000 107000"
+    swapped = [(GENERATING, 0, 2), (GENERATING, 0, 1)]
+    refusals = [
+        # The regions the other way round, but for a byte too many, byte 3 of the last unit, a region of 5.
+        refused("load", 1, load(register(LENGTHS, swapped) + b"\0")),
+        refused("load", 4, load(register(LENGTHS, swapped)[:-1] + b"\1"), load(register(LENGTHS, [*swapped, (GENERATING, 0, 5)]))),
+        # In a chain.
+        refused("load", 37, load(register(LENGTHS, [(GENERATING, 2, 2), (GENERATING, 0, 1)], [1]))),
+    ]
+    member = wide(107.0, mode=2)
+
+    def chained_at(number, mode, unit, aggregate):
+        """Chain 2 -> 1, both 7,000 over: SMALL. The aggregate: 214,000 - 200,000 = 14,000, with MWO 400,000 and ROC 18,000, so a
+        small trigger of min(1,200,000, 3,600,000) and a large one of min(2,000,000, 7,200,000): SMALL."""
+        return accepted(interval(number, mode, member, member), *numbered(number, [unit, unit, aggregate]))
+
+    return [
+        (load(register(LENGTHS, [(GENERATING, 0, 1), (GENERATING, 0, 2)])), "load accepted 0"),
+        *to_run_3(3, 2),
+        *refusals,
+        *looks("3 3 0 0", "2 3 0 0"),
+        # Unit 1 is still in region 1, and unit 2 in region 2.
+        taken(5, regions(1), declared, over_7(2, 4)),
+        *refusals,
+        *reasons("small 2 5", None),
+        taken(6, regions(2), declared, declared),
+        *reasons("small 2 5", "small 2 6"),
+        # The other way round.
+        (load(register(LENGTHS, swapped)), "load accepted 0"),
+        *to_run_3(2, 3),
+        taken(5, regions(1), over_7(2, 4), declared),
+        *reasons(None, "small 2 5"),
+        # Both in region 0.
+        (load(TWO_UNITS), "load accepted 0"),
+        *to_run_3(2, 2),
+        taken(5, regions(1, 2, 3, 4), over_7(2, 4), over_7(2, 4)),
+        taken(6, regions(0), declared, declared),
+        *reasons("small 2 6", "small 2 6"),
+        # Both in region 1.
+        (load(register(LENGTHS, [(GENERATING, 0, 1)] * 2)), "load accepted 0"),
+        *to_run_3(3, 3),
+        taken(5, regions(1), declared, declared),
+        # Point 3 is an aggregate, in region 4.
+        (load(register(LENGTHS, [(GENERATING, 0, 4), (GENERATING, 1, 4)], [2])), "load accepted 2"),
+        chained_at(1, regions(1), "0 1 0 0 0 0 0", "0 1 0 0 0 0 0"),
+        chained_at(2, regions(1), "1 4 1 0 7000 600000 0", "1 4 1 0 14000 1200000 0"),
+        chained_at(3, regions(1), "2 4 2 0 7000 600000 0", "2 4 2 0 14000 1200000 0"),
+        chained_at(4, regions(1), "2 4 3 0 7000 600000 0", "2 4 3 0 14000 1200000 0"),
+        # Refused, with the aggregate's head in region 1, and then the other member.
+        refused("load", 37, load(register(LENGTHS, [(GENERATING, 0, 4), (GENERATING, 1, 1)], [2])),
+                load(register(LENGTHS, [(GENERATING, 0, 1), (GENERATING, 1, 4)], [2]))),
+        chained_at(5, regions(1), "2 4 4 0 7000 600000 0", "2 4 4 0 14000 1200000 0"),
+        chained_at(6, regions(4), "4 4 0 0 7000 600000 107000", "4 4 0 0 14000 1200000 214000"),
+        # Point 3 is a unit in region 1, and units 1 and 2 are in regions 4 and 0.
+        (load(register(LENGTHS, [(GENERATING, 0, 4), (GENERATING, 0, 0), (GENERATING, 0, 1)])), "load accepted 0"),
+        taken(1, regions(1), *[(ON, "0 1 0 0 0 0 0")] * 3),
+        taken(2, regions(1), *[over_7(1, 1)] * 3),
+        taken(3, regions(1), *[over_7(2, 2)] * 3),
+        taken(4, regions(1), over_7(2, 3), over_7(2, 3), over_7(3, 3)),
+        taken(5, regions(0), over_7(2, 4), declared, over_7(2, 4)),
+        taken(6, regions(4), declared, declared, over_7(2, 5)),
+        taken(7, regions(1), declared, declared, declared),
+        *reasons("small 2 6", "small 2 5", "small 2 7"),
+    ]
+
+
+def regions_plant():
+    """64 units and 16 aggregates. Chain k, k -> k + 16 -> k + 32, is point 64 + k, in region 0 to 4 by turns; units 49 to 64 in no
+    chain, in region 4 and then 0 to 4 by turns. All are generating units.
+
+    All are 11,000 over: LARGE. The aggregates are 33,000 over, at 333,000: MWO 600,000, ROC 27,000, so their small trigger is
+    min(1,800,000, 5,400,000) and their large one min(3,000,000, 10,800,000): LARGE. All are manual up to large run 4; then one
+    region alone is automatic each time, 3, 0, 4, 1 and 2.
+    """
+    regions_of_chains = [(chain - 1) % 5 for chain in range(1, 17)]
+    regions_of_units = regions_of_chains * 3 + [unit % 5 for unit in range(49, 65)]
+    units = [(GENERATING, unit + 16 if unit <= 32 else 0, region) for unit, region in enumerate(regions_of_units, 1)]
+    declared_at = {3: 6, 0: 7, 4: 8, 1: 9, 2: 10}  # by region
+    points = [("11000 600000", 111_000, region) for region in regions_of_units]
+    points += [("33000 1800000", 333_000, region) for region in regions_of_chains]
+
+    def at(number, mode, texts):
+        lines = [wide(111.0, mode=2 if unit <= 48 else 0) for unit in range(1, 65)]
+        return accepted(interval(number, mode, *lines), *numbered(number, texts))
+
+    steps = [
+        (load(register(LENGTHS, units, range(1, 17))), "load accepted 48"),
+        at(1, regions(), ["0 1 0 0 0 0 0"] * 80),
+        at(2, regions(), [f"1 5 1 1 {error} 0" for error, _, _ in points]),
+        *[at(number, regions(), [f"2 5 {number - 1} {number - 1} {error} 0" for error, _, _ in points]) for number in (3, 4, 5)],
+        *reasons(*[None] * 80),
+    ]
+    for region, number in declared_at.items():
+        run = number - 1
+        steps.append(at(number, regions(region), [
+            f"4 5 0 0 {error} {level}" if declared_at[own] <= number else f"2 5 {run} {run} {error} 0"
+            for error, level, own in points]))
+    return steps + [
+        *standing(*[level for _, level, _ in points]),
+        *reasons(*[f"large 2 {declared_at[own]}" for _, _, own in points]),
+    ]
+
+
+def in_region(region, steps):
+    """The same calls with all units in this region. Its bit alone is set for automatic mode, and all others for manual mode."""
+    modes = {AUTOMATIC: regions(region), MANUAL: regions(*{0, 1, 2, 3, 4} - {region})}
+
+    def moved(sent):
+        out, at = bytearray(sent), 0
+        while at < len(out):
+            tag, length = struct.unpack_from("<II", out, at)
+            if tag == 1:  # at 8 the register, whose first byte is the unit count; units from 24 on
+                for unit in range(out[at + 8]):
+                    out[at + 26 + 4 * unit] = region
+            elif tag == 2:  # at 8 the report's length, at 12 the interval's number, at 16 its mode
+                out[at + 16] = modes[out[at + 16]]
+            at += 8 + length
+        return bytes(out)
+
+    return [(moved(sent), *texts) for sent, *texts in steps]
+
+
+def regions_every_status():
+    """The calls of `every_status` in region 4. The answers are what they were."""
+    return in_region(4, every_status())
+
+
+def regions_operator_declaration():
+    """The calls of `operator_declaration`, likewise."""
+    return in_region(3, operator_declaration())
+
+
+def regions_manual_runs():
+    """The calls of `reason_manual_runs`, likewise."""
+    return in_region(1, reason_manual_runs())
+
+
+def regions_levels_in_chains():
+    """The calls of `levels_in_chains`, likewise."""
+    return in_region(2, levels_in_chains())
+
+
 # ---- two lists that are alike for one group
 
 
@@ -4022,7 +4538,9 @@ LISTS = [every_status, operator_declaration, refusals_without_register, refusals
          reason_stays, reason_reinstated, reason_refused_calls, reason_refusals, reason_of_aggregate, reason_numbers, reason_plant,
          target_mixed, target_unreadable, target_between, target_jump, target_refusals, target_plant, target_declared, target_asked,
          target_asked_in_chains, side_by_side_orders, side_by_side_interleaved, side_by_side_ends, side_by_side_single,
-         side_by_side_regrouped]
+         side_by_side_regrouped, regions_masks, regions_opposite, regions_flipped, regions_each, regions_of_aggregates,
+         regions_reasons, regions_loads, regions_load_again, regions_plant, regions_every_status, regions_operator_declaration,
+         regions_manual_runs, regions_levels_in_chains]
 ALIKE = [(alike_1, alike_2), (alike_solar_1, alike_solar_2), (alike_levels_1, alike_levels_2), (alike_reasons_1, alike_reasons_2),
          (alike_targets_1, alike_targets_2)]
 # What `rt ci` runs the program on.
