@@ -3324,7 +3324,7 @@ def over_11(status, small, large):
     return FAR, f"{status} 5 {small} {large} 11000 600000 0"
 
 
-def regions_masks():
+def regions_modes():
     """Unit 1 in region 0 and unit 2 in region 4, in no chain. Each mode up to 31 is accepted, and each above it gives 9."""
     registered = register(LENGTHS, [(GENERATING, 0, 0), (GENERATING, 0, 4)])
     none, without_units = (ON, "0 1 0 0 0 0 0"), regions(1, 2, 3)
@@ -4462,6 +4462,185 @@ def alike_targets_2():
     )
 
 
+def alike_regions(bits, others, above, between):
+    """Chain 1 -> 3 (generating unit, load) with its aggregate, point 7, in region 2, is the group. Outside of it: generating unit 2
+    in no chain, in region 0; chain 5 -> 4 (bidirectional unit, load) with its aggregate, point 8, in region 4; semi-scheduled unit
+    6 in no chain, in region 2 as the group is. Small run 2, 3, 5; large run 2, 3, 4.
+
+    bits: for the interval of each number the regions other than 2 that are automatic; others: the lines of units 2, 4, 5 and 6,
+    and what is printed of points 2, 4, 5, 6 and 8; above: two modes above 31, without bit 2 and with it; between: operator calls
+    outside the group after the interval of that number. Gives the steps as `alike` does.
+    """
+    units = [(GENERATING, 3, 2), (GENERATING, 0, 0), (LOAD, 0, 2), (LOAD, 0, 4), (BIDIRECTIONAL, 4, 4), (SEMI_SCHEDULED, 0, 2)]
+    steps = [(True, load(register((2, 3, 5, 2, 3, 4), units, [1, 5])), "load accepted 4")]
+
+    # Targets and triggers of the group are those of `reason_of_aggregate`.
+    def buffer_of(number, mode, one, three, lines, **changes):
+        two, *four_to_six = lines
+        return interval(number, mode, wide(one, **({"mode": 2} | changes)), two, wide(three, mwb=40_000, mode=2), *four_to_six)
+
+    def at(number, own, one, three, *ours, **changes):
+        """own: region 2, or no region."""
+        lines, (two, four, five, six, eight) = others[number]
+        texts = ours[0], two, ours[1], four, five, six, ours[2], eight
+        buffer = buffer_of(number, regions(*own, *bits[number]), one, three, lines, **changes)
+        steps.append((True, given(buffer, 128), "interval accepted"))
+        steps.extend((point in (1, 3, 7), b"", f"{number} {point} {text}") for point, text in enumerate(texts, 1))
+        steps.extend((False, *step) for step in between.get(number, []))
+
+    def named(sent, text):
+        steps.append((True, sent, text))
+
+    def told(*answers):
+        """The reasons of points 1, 3 and 7."""
+        for point, answer in zip((1, 3, 7), answers, strict=True):
+            named(reason(point), f"reason {answer}")
+
+    def refused_in_both(number, last):
+        """Lines that would be LARGE, and other regions' bits as in interval 7 or a mode above 31."""
+        def sent(sent_number, mode):
+            return buffer_of(sent_number, mode, 150.0, 10.0, others[7][0])
+
+        allowed = regions(*bits[7]), regions(2, *bits[7])
+        # The report one record short; a mode above 31, and a spare; the number of the last accepted.
+        for refusal, report, buffers in (
+            (8, 112, [sent(number, mode) for mode in (*allowed, *above)]),
+            (9, 128, [sent(each, mode) for mode in above for each in (number, last, number + 5)]),
+            (9, 128, [sent(number, mode)[:7] + b"\1" + sent(number, mode)[8:] for mode in allowed]),
+            (21, 128, [sent(last, mode) for mode in allowed]),
+        ):
+            steps.extend((True, given(buffer, report), f"interval refused {refusal}") for buffer in buffers)
+
+    manual, automatic = (), (2,)
+    none, on = "0 1 0 0 0 0 0", "0 2 0 0 0 600000 0"
+    at(1, manual, 100.0, 40.0, none, none, none)  # nothing kept
+    at(2, manual, 107.0, 40.0, "1 4 1 0 7000 600000 0", on, "1 4 1 0 7000 600000 0")
+    at(3, manual, 107.0, 33.0, "2 4 2 0 7000 600000 0", "1 4 1 0 -7000 600000 0", "2 5 2 1 14000 600000 0")
+    # Small run 3: manual mode shows 2.
+    at(4, manual, 111.0, 33.0, "2 5 3 1 11000 600000 0", "2 4 2 0 -7000 600000 0", "2 5 3 2 18000 600000 0")
+    # Unit 1 is substituted: DOUBT for it and for the aggregate. Automatic mode shows 3.
+    at(5, automatic, 111.0, 33.0, "3 3 3 1 11000 600000 0", "3 4 3 0 -7000 600000 0", "3 3 3 2 18000 600000 0",
+       quality=SUBSTITUTED)
+    at(6, manual, 111.0, 33.0, "2 5 4 2 11000 600000 0", "2 4 4 0 -7000 600000 0", "2 5 4 3 18000 600000 0")
+    named(look(1), "look accepted 2 4 2 0")
+    named(look(7), "look accepted 2 4 3 0")
+    told("refused 36", "refused 36", "refused 36")
+    refused_in_both(7, 6)
+    named(look(3), "look accepted 2 4 0 0")
+    told("refused 36", "refused 36", "refused 36")
+    # Runs 5 and 3, 5 and 0, 5 and 4: declared, the aggregate at 111,000 - 33,000.
+    at(7, automatic, 111.0, 33.0, "4 5 0 0 11000 600000 111000", "4 4 0 0 -7000 600000 33000", "4 5 0 0 18000 600000 78000")
+    told("accepted small 2 7", "accepted small 3 7", "accepted large 3 7")
+    at(8, manual, 100.0, 40.0, "4 2 0 0 0 600000 111000", "4 2 0 0 0 600000 33000", "4 2 0 0 0 600000 78000")
+    told("accepted small 2 7", "accepted small 3 7", "accepted large 3 7")
+    for point in (1, 3, 7):
+        named(reinstate(point), "reinstate accepted")
+    # 11,000, -11,000 and 22,000: LARGE.
+    at(9, manual, 111.0, 29.0, "1 5 1 1 11000 600000 0", "1 5 1 1 -11000 600000 0", "1 5 1 1 22000 600000 0")
+    at(10, automatic, 111.0, 29.0, "2 5 2 2 11000 600000 0", "2 5 2 2 -11000 600000 0", "2 5 2 2 22000 600000 0")
+    named(declare(3, 29_000), "declare accepted")
+    at(11, automatic, 111.0, 29.0, "3 5 3 3 11000 600000 0", "4 5 0 0 -11000 600000 29000", "3 5 3 3 22000 600000 0")
+    # Large run 4 in manual mode.
+    at(12, manual, 111.0, 29.0, "2 5 4 4 11000 600000 0", "4 5 0 0 -11000 600000 29000", "2 5 4 4 22000 600000 0")
+    told("refused 36", "accepted operator 0 0", "refused 36")
+    # Runs 5 and 5, the aggregate at 111,000 - 29,000.
+    at(13, automatic, 111.0, 29.0, "4 5 0 0 11000 600000 111000", "4 5 0 0 -11000 600000 29000", "4 5 0 0 22000 600000 82000")
+    told("accepted large 9 13", "accepted operator 0 0", "accepted large 9 13")
+    named(target(7), "target accepted 60000 0 0 1")
+    return steps
+
+
+def alike_regions_1():
+    """Units 2 and 5 are LARGE and unit 6 is SMALL; they and point 8 are declared by their own bits. Two are reinstated."""
+    # Unit 5: -39,000 - (-50,000). Unit 4 stays at its target. Point 8: -39,000 - 30,000 against -50,000 - 30,000. Both are 11,000
+    # over, with triggers as `wide` says: MWO max(200,000, 200,000), ROC max(9,000, 9,000). Unit 6 has a kept flag of 1.
+    lines = FAR, wide(30.0, mwb=30_000, mode=2), wide(-39.0, mwb=-50_000, mode=2), wide(107.0, cap=1)
+    none, on = "0 1 0 0 0 0 0", "0 2 0 0 0 600000 0"
+    two, five, eight = "4 5 0 0 11000 600000 111000", "4 5 0 0 11000 600000 -39000", "4 5 0 0 11000 600000 -69000"
+    six = "4 4 0 0 7000 600000 107000"
+
+    def large(status, run):
+        return f"{status} 5 {run} {run} 11000 600000 0"
+
+    def small(status, run):
+        return f"{status} 4 {run} 0 7000 600000 0"
+
+    # By number: the other regions that are automatic; what is printed of points 2, 4, 5, 6 and 8.
+    given_of = {
+        1: ((), (none, none, none, none, none)),
+        2: ((0,), (large(1, 1), on, large(1, 1), small(1, 1), large(1, 1))),
+        3: ((0,), (large(2, 2), on, large(2, 2), small(2, 2), large(2, 2))),
+        4: ((0,), (large(3, 3), on, large(2, 3), small(2, 3), large(2, 3))),  # region 0 alone is automatic
+        5: ((0,), (two, on, large(2, 4), small(3, 4), large(2, 4))),  # regions 0 and 2
+        6: ((4,), (two, on, five, small(2, 5), eight)),  # region 4 alone
+        7: ((), (two, on, five, six, eight)),  # region 2 alone
+        8: ((0, 1, 3, 4), (two, on, five, six, eight)),
+        9: ((3,), (large(1, 1), on, five, six, large(1, 1))),  # 2 and 8 were reinstated after 8
+        10: ((0, 1, 3, 4), (large(2, 2), on, five, six, large(2, 2))),
+        11: ((), (large(2, 3), on, five, six, large(2, 3))),  # run 3 in manual mode
+        12: ((0, 1, 3, 4), (two, on, five, six, eight)),  # run 4 in automatic mode
+        13: ((1,), (two, on, five, six, eight)),
+    }
+    return alike_regions(
+        {number: automatic for number, (automatic, _) in given_of.items()},
+        {number: (lines, texts) for number, (_, texts) in given_of.items()},
+        (32, 36),
+        {
+            3: [refused("declare", 22, declare(4, 0)), *[(look(point), "look accepted 2 2 2 0") for point in (2, 5, 8)]],
+            5: [(reason(2), "reason accepted large 2 5"), refused("reason", 36, reason(5), reason(6), reason(8))],
+            6: [
+                (reason(5), "reason accepted large 2 6"),
+                (reason(8), "reason accepted large 2 6"),
+                refused("reason", 36, reason(6)),
+            ],
+            7: [(reason(6), "reason accepted small 2 7"), (look(8), "look accepted 4 0 0 -69000")],
+            8: [(reinstate(2), "reinstate accepted"), (reinstate(8), "reinstate accepted"), refused("reason", 36, reason(2))],
+            12: [(reason(2), "reason accepted large 9 12"), (reason(8), "reason accepted large 9 12")],
+            13: [refused("look", 10, look(9)), (reason(6), "reason accepted small 2 7")],
+        },
+    )
+
+
+def alike_regions_2():
+    """The other bits the other way round at most intervals. Unit 2 is too low, unit 5 cannot be read, units 4 and 6 are off."""
+    # Unit 2: -(100,000 - 93,000), SMALL. Unit 4 has conformance mode 1: OFF. Quality 3 is unreadable: BLANK for unit 5 and for
+    # point 8. A kept flag of 0: OFF for unit 6, but BLANK at the first interval.
+    lines = wide(93.0), wide(30.0, mwb=30_000, mode=1), wide(-39.0, mwb=-50_000, mode=2, quality=3), wide(107.0, cap=0)
+    none, off, two = "0 1 0 0 0 0 0", "0 0 0 0 0 0 0", "4 4 0 0 -7000 600000 93000"
+
+    def small(status, run):
+        return f"{status} 4 {run} 0 -7000 600000 0"
+
+    # By number: the other regions that are automatic; what is printed of point 2.
+    given_of = {
+        1: ((0, 1, 3, 4), none),
+        2: ((0, 1, 3, 4), small(1, 1)),
+        3: ((), small(2, 2)),
+        4: ((1, 3, 4), small(2, 3)),  # region 0 is manual
+        5: ((3,), small(2, 4)),
+        6: ((0, 1, 3, 4), two),  # region 0 is automatic: small run 5
+        7: ((0, 1, 3, 4), two),
+        8: ((), two),
+        9: ((0, 1, 3, 4), small(1, 1)),  # reinstated after 8
+        10: ((), small(2, 2)),
+        11: ((0, 1, 3, 4), small(3, 3)),
+        12: ((), small(2, 4)),
+        13: ((0, 3, 4), two),
+    }
+    return alike_regions(
+        {number: automatic for number, (automatic, _) in given_of.items()},
+        {number: (lines, (text, off, none, none if number == 1 else off, none)) for number, (_, text) in given_of.items()},
+        (251, 255),  # all bits but bit 2, and all bits
+        {
+            1: [refused("reinstate", 23, reinstate(2), reinstate(8)), (target(8), "target accepted -30000 0 0 0")],
+            6: [(reason(2), "reason accepted small 2 6"), refused("reason", 36, reason(8))],
+            8: [(reinstate(2), "reinstate accepted")],
+            11: [(look(2), "look accepted 3 3 0 0"), refused("declare", 11, declare(2, -1)), refused("declare", 22, declare(6, 0))],
+            13: [(reason(2), "reason accepted small 9 13")],
+        },
+    )
+
+
 # ---- script errors
 
 
@@ -4538,11 +4717,11 @@ LISTS = [every_status, operator_declaration, refusals_without_register, refusals
          reason_stays, reason_reinstated, reason_refused_calls, reason_refusals, reason_of_aggregate, reason_numbers, reason_plant,
          target_mixed, target_unreadable, target_between, target_jump, target_refusals, target_plant, target_declared, target_asked,
          target_asked_in_chains, side_by_side_orders, side_by_side_interleaved, side_by_side_ends, side_by_side_single,
-         side_by_side_regrouped, regions_masks, regions_opposite, regions_flipped, regions_each, regions_of_aggregates,
+         side_by_side_regrouped, regions_modes, regions_opposite, regions_flipped, regions_each, regions_of_aggregates,
          regions_reasons, regions_loads, regions_load_again, regions_plant, regions_every_status, regions_operator_declaration,
          regions_manual_runs, regions_levels_in_chains]
 ALIKE = [(alike_1, alike_2), (alike_solar_1, alike_solar_2), (alike_levels_1, alike_levels_2), (alike_reasons_1, alike_reasons_2),
-         (alike_targets_1, alike_targets_2)]
+         (alike_targets_1, alike_targets_2), (alike_regions_1, alike_regions_2)]
 # What `rt ci` runs the program on.
 CRATE_LIST = "every_status"
 
