@@ -812,8 +812,8 @@ def registers():
     silent("64 units", register(LENGTHS, [(1 + unit % 4, 0) for unit in range(64)]), [STRANGER])
     silent("64 units, all unreadable", register(LENGTHS, [(1 + unit % 4, 0) for unit in range(64)]), [STRANGER_UNREADABLE])
     # Regions change no pass: 1 -> 2 in region 4, 3 in region 1.
-    regions = register(LENGTHS, [(GENERATING, 2, 4), (GENERATING, 0, 4), (GENERATING, 0, 1)], [1, 3])
-    put("two regions", regions, numbered([blank(2), CLEAR_1]), [ON_TARGET, UNREADABLE], [0, 1, 0])
+    two_regions = register(LENGTHS, [(GENERATING, 2, 4), (GENERATING, 0, 4), (GENERATING, 0, 1)], [1, 3])
+    put("two regions", two_regions, numbered([blank(2), CLEAR_1]), [ON_TARGET, UNREADABLE], [0, 1, 0])
     one_pass("behind a register without aggregates", rising(4), blank(2), ON_TARGET, {2: UNREADABLE})
 
 
