@@ -2,7 +2,7 @@
 //!
 //! Fields are little-endian; power is in kW, ramp rates in kW per minute, triggers in hundredths of a kW.
 //!
-//! - [`register`]: register bytes to a [`Plant`], refusals 1 to 7 and 30, visits
+//! - [`register`]: register bytes to a [`Plant`], refusals 1 to 7, 30 and 37, visits
 //! - [`line`]: one 40-byte line, readable or not, and a float as whole kW
 //! - [`marks`]: rate of change, triggers, errors, the mark of a unit, the pass that marks an aggregate
 //! - [`monitor`]: the state; load, interval, declare, reinstate, look, reason, target; the report

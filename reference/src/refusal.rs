@@ -12,8 +12,8 @@ pub enum Refusal {
     Counts = 2,
     /// Run lengths not rising, or below 2.
     RunLengths = 3,
-    /// Unknown kind, or a nonzero spare in the register.
-    KindOrSpare = 4,
+    /// Unknown kind, region above 4, or a nonzero spare in the register.
+    KindRegionOrSpare = 4,
     /// Index above n, or head 0.
     Index = 5,
     /// Unit met twice along the chains.
@@ -22,7 +22,7 @@ pub enum Refusal {
     Unmet = 7,
     /// Interval not 8 + 40n bytes, or report not 16(n + m).
     BufferLength = 8,
-    /// Mode above 1, or a nonzero spare in the interval header.
+    /// Mask of modes above 31, or a nonzero spare in the interval header.
     Header = 9,
     /// Point 0 or above n + m; of a target, the point of a unit too.
     Point = 10,
@@ -50,6 +50,8 @@ pub enum Refusal {
     UnitNotDeclared = 35,
     /// Reason of a point that is not declared.
     NoReason = 36,
+    /// Chain across regions.
+    MixedRegions = 37,
 }
 
 impl Refusal {

@@ -1,4 +1,4 @@
-//! The register: counts, run lengths, kinds and chains.
+//! The register: counts, run lengths, kinds, regions and chains.
 
 use crate::line::Kind;
 use crate::refusal::Refusal;
@@ -6,6 +6,8 @@ use crate::refusal::Refusal;
 pub const MAX_UNITS: usize = 64;
 pub const MAX_AGGREGATES: usize = 16;
 pub const MAX_POINTS: usize = MAX_UNITS + MAX_AGGREGATES;
+/// Regions are 0 to 4.
+pub const REGIONS: u8 = 5;
 
 const HEADER: usize = 16;
 
@@ -41,6 +43,8 @@ pub struct Plant {
     small: RunLengths,
     large: RunLengths,
     kinds: [Kind; MAX_UNITS],
+    /// Of each point: of the units, then of the aggregates, so that an interval looks at no member for it.
+    regions: [u8; MAX_POINTS],
     /// The flat list: members of aggregate 0 along its chain, then those of 1, ...; then the units in no chain, rising.
     order: [u8; MAX_UNITS],
     /// The part of `order` that each aggregate has; all of them together are its first `member_count`.
@@ -72,17 +76,19 @@ impl Plant {
 
         // 4 over the whole register.
         let mut kinds = [Kind::Generating; MAX_UNITS];
+        let mut regions = [0; MAX_POINTS];
         if header[8..].iter().any(|&spare| spare != 0) {
-            return Err(Refusal::KindOrSpare);
+            return Err(Refusal::KindRegionOrSpare);
         }
-        for (kind, record) in kinds.iter_mut().zip(unit_records) {
-            *kind = Kind::of(u32::from(record[0])).ok_or(Refusal::KindOrSpare)?;
-            if record[2] != 0 || record[3] != 0 {
-                return Err(Refusal::KindOrSpare);
+        for ((kind, region), record) in kinds.iter_mut().zip(&mut regions).zip(unit_records) {
+            *kind = Kind::of(u32::from(record[0])).ok_or(Refusal::KindRegionOrSpare)?;
+            *region = record[2];
+            if record[2] >= REGIONS || record[3] != 0 {
+                return Err(Refusal::KindRegionOrSpare);
             }
         }
         if head_records.iter().any(|head| head[1..] != [0, 0, 0]) {
-            return Err(Refusal::KindOrSpare);
+            return Err(Refusal::KindRegionOrSpare);
         }
 
         // 5 over the whole register.
@@ -131,12 +137,24 @@ impl Plant {
             return Err(Refusal::SemiScheduledMember);
         }
 
+        // 37: every chain; an aggregate's region is its members'.
+        for (aggregate, head) in head_records.iter().enumerate() {
+            let region = regions[usize::from(head[0]) - 1];
+            let Stretch { start, count } = stretches[aggregate];
+            let members = &order[usize::from(start)..][..usize::from(count)];
+            if members.iter().any(|&unit| regions[usize::from(unit)] != region) {
+                return Err(Refusal::MixedRegions);
+            }
+            regions[units + aggregate] = region;
+        }
+
         let plant = Self {
             units: units as u8,
             aggregates: aggregates as u8,
             small,
             large,
             kinds,
+            regions,
             order,
             stretches,
             member_count: visits as u8,
@@ -161,6 +179,12 @@ impl Plant {
 
     pub fn kind(&self, unit: usize) -> Kind {
         self.kinds[unit]
+    }
+
+    /// The region of a point, counted from 0.
+    #[inline(always)]
+    pub fn region(&self, point: usize) -> u8 {
+        self.regions[point]
     }
 
     /// Whether the level of a point, counted from 0, may be negative.
@@ -294,9 +318,15 @@ mod tests {
             refused(&bytes)
         };
         // Unit 1 at 16, unit 2 at 20, head at 24.
-        for at in (8..16).chain([18, 19, 22, 23, 25, 26, 27]) {
+        for at in (8..16).chain([19, 23, 25, 26, 27]) {
             assert_eq!(with(&[(at, 1)]), 4);
         }
+        for region in [5, 6, 8, 16, 31, 128, 255] {
+            assert_eq!(with(&[(18, region)]), 4);
+            assert_eq!(with(&[(22, region)]), 4);
+        }
+        assert_eq!(with(&[(18, 1)]), 37);
+        assert_eq!(with(&[(22, 1)]), 37);
         for kind in [0, 5, 6, 255] {
             assert_eq!(with(&[(20, kind)]), 4);
         }
@@ -306,12 +336,14 @@ mod tests {
         assert_eq!(with(&[(21, 1)]), 6);
         assert_eq!(with(&[(17, 0), (21, 1)]), 7);
         assert_eq!(with(&[(17, 0), (21, 2)]), 7);
-        // A spare in the last head goes before an index in the first unit.
+        // A spare in the last head, and a region in the last unit, go before an index in the first unit.
         assert_eq!(with(&[(17, 3), (27, 1)]), 4);
+        assert_eq!(with(&[(17, 3), (22, 5)]), 4);
         // An index in a unit that no chain meets goes before a unit met twice.
         assert_eq!(refused(&register(&[(1, 1), (1, 9)], &[1])), 5);
         // Run lengths go before kinds, length before run lengths.
         assert_eq!(with(&[(2, 0), (16, 9)]), 3);
+        assert_eq!(with(&[(2, 0), (18, 5)]), 3);
         // All chains are walked before 7.
         assert_eq!(refused(&register(&[(1, 1), (1, 0)], &[2, 2])), 6);
         assert_eq!(refused(&register(&[(1, 0), (1, 3), (1, 2)], &[1])), 7);
@@ -389,5 +421,111 @@ mod tests {
         // One that a chain runs into is met.
         assert_eq!(with(&[(21, 4), (28, 4)]), 30);
         assert_eq!(with(&[(32, 4), (28, 4), (29, 1)]), 30);
+    }
+
+    /// Gives units, counted from 1, these regions.
+    fn with_regions(mut bytes: Vec<u8>, regions: &[(usize, u8)]) -> Vec<u8> {
+        for &(unit, region) in regions {
+            bytes[14 + 4 * unit] = region;
+        }
+        bytes
+    }
+
+    #[test]
+    fn regions_of_points() {
+        let regions = |bytes: &[u8]| -> Vec<u8> {
+            let (plant, _) = Plant::load(bytes).unwrap();
+            (0..plant.points()).map(|point| plant.region(point)).collect()
+        };
+        // Units in no chain, each in its own region; then all in one.
+        let loners = register(&[(1, 0), (2, 0), (3, 0), (4, 0), (1, 0)], &[]);
+        assert_eq!(regions(&with_regions(loners.clone(), &[(1, 4), (2, 0), (3, 3), (4, 1), (5, 2)])), [4, 0, 3, 1, 2]);
+        for region in 0..=4 {
+            assert_eq!(regions(&with_regions(loners.clone(), &[1, 2, 3, 4, 5].map(|u| (u, region)))), [region; 5]);
+        }
+        // Chains 5 2, 1 3 and 6; unit 4 in none. An aggregate is in its members' region.
+        let chains = register(&[(1, 3), (2, 0), (3, 0), (1, 0), (1, 2), (1, 0)], &[5, 1, 6]);
+        let units = [(5, 3), (2, 3), (1, 1), (3, 1), (6, 0), (4, 2)];
+        assert_eq!(regions(&with_regions(chains.clone(), &units)), [1, 3, 1, 2, 3, 0, 3, 1, 0]);
+        assert_eq!(regions(&chains), [0; 9]);
+        // The largest: sixteen chains of four.
+        let units: Vec<(u8, u8)> = (1..=64).map(|u| (3, if u % 4 == 0 { 0 } else { u + 1 })).collect();
+        let heads: Vec<u8> = (0..16).map(|a| 4 * a + 1).collect();
+        let spread: Vec<(usize, u8)> = (1..=64).map(|u| (u, ((u - 1) / 4 % 5) as u8)).collect();
+        let found = regions(&with_regions(register(&units, &heads), &spread));
+        assert!((0..64).all(|unit| usize::from(found[unit]) == unit / 4 % 5));
+        assert_eq!(found[64..], [0, 1, 2, 3, 4, 0, 1, 2, 3, 4, 0, 1, 2, 3, 4, 0]);
+    }
+
+    #[test]
+    fn chains_across_regions() {
+        // Chains 5 2, 1 3 6 and 4; units 7 and 8 in none.
+        let good = register(&[(1, 3), (2, 0), (3, 6), (1, 0), (1, 2), (3, 0), (1, 0), (4, 0)], &[5, 1, 4]);
+        let chains: [&[usize]; 2] = [&[5, 2], &[1, 3, 6]];
+        for (own, other) in [(0, 1), (0, 4), (4, 0), (2, 3)] {
+            let all = with_regions(good.clone(), &[1, 2, 3, 4, 5, 6, 7, 8].map(|unit| (unit, own)));
+            assert_eq!(Plant::load(&all).unwrap().1, 6);
+            // Each place of both chains, one and two at a time; a chain that moves whole is in one region again.
+            for unit in [1, 2, 3, 5, 6] {
+                assert_eq!(refused(&with_regions(all.clone(), &[(unit, other)])), 37);
+                for second in [1, 2, 3, 5, 6] {
+                    let bytes = with_regions(all.clone(), &[(unit, other), (second, other)]);
+                    if unit != second && [unit, second].iter().all(|unit| chains[0].contains(unit)) {
+                        assert!(Plant::load(&bytes).is_ok());
+                    } else {
+                        assert_eq!(refused(&bytes), 37);
+                    }
+                }
+            }
+            assert!(Plant::load(&with_regions(all.clone(), &[(1, other), (3, other), (6, other)])).is_ok());
+            // A chain of one, and units in no chain, go where they will.
+            assert!(Plant::load(&with_regions(all, &[(4, other), (7, other), (8, other)])).is_ok());
+        }
+        // The last member of the longest chain, and that of the last chain of the largest register.
+        let longest: Vec<(u8, u8)> = (1..=64).map(|u| (1, if u == 64 { 0 } else { u + 1 })).collect();
+        assert_eq!(refused(&with_regions(register(&longest, &[1]), &[(64, 4)])), 37);
+        let fours: Vec<(u8, u8)> = (1..=64).map(|u| (1, if u % 4 == 0 { 0 } else { u + 1 })).collect();
+        let heads: Vec<u8> = (0..16).map(|a| 4 * a + 1).collect();
+        assert_eq!(refused(&with_regions(register(&fours, &heads), &[(64, 1)])), 37);
+        assert_eq!(refused(&with_regions(register(&fours, &heads), &[(61, 1)])), 37);
+    }
+
+    #[test]
+    fn order_of_chains_across_regions() {
+        // Chains 1 2 and 5 6; units 3 and 4 in none. Unit 2 in another region than unit 1.
+        let units = [(1, 2), (2, 0), (3, 0), (1, 0), (1, 6), (1, 0)];
+        let across = with_regions(register(&units, &[1, 5]), &[(2, 1)]);
+        let with = |changes: &[(usize, u8)]| {
+            let mut bytes = across.clone();
+            for &(at, value) in changes {
+                bytes[at] = value;
+            }
+            refused(&bytes)
+        };
+        // Unit u's kind at 12 + 4u, its next, its region and its spare behind that; the heads at 40 and 44.
+        assert_eq!(with(&[]), 37);
+        // 30 goes before, in that chain or in a later one, and 7 before that.
+        for chained in [16, 20, 32, 36] {
+            assert_eq!(with(&[(chained, 4)]), 30);
+            assert_eq!(with(&[(chained, 4), (25, 1)]), 7);
+        }
+        assert_eq!(with(&[(29, 3)]), 7);
+        // So do 6, 5, 4, 3, 2 and 1.
+        assert_eq!(with(&[(37, 1)]), 6);
+        assert_eq!(with(&[(44, 1)]), 6);
+        assert_eq!(with(&[(29, 7)]), 5);
+        assert_eq!(with(&[(44, 0)]), 5);
+        assert_eq!(with(&[(36, 5)]), 4);
+        assert_eq!(with(&[(39, 1)]), 4);
+        assert_eq!(with(&[(38, 5)]), 4);
+        assert_eq!(with(&[(2, 1)]), 3);
+        assert_eq!(with(&[(1, 17)]), 2);
+        assert_eq!(with(&[(0, 7)]), 1);
+        // A second chain across regions changes nothing; one alone is enough, wherever it stands.
+        assert_eq!(with(&[(38, 2)]), 37);
+        assert_eq!(with(&[(22, 0), (38, 2)]), 37);
+        assert_eq!(with(&[(22, 0), (34, 2)]), 37);
+        // A chain that runs on into a unit of another region.
+        assert_eq!(with(&[(22, 0), (37, 3), (26, 4)]), 37);
     }
 }
