@@ -53,9 +53,9 @@ fn with(mut bytes: [u8; 40], at: usize, value: u8) -> [u8; 40] {
     bytes
 }
 
-fn buffer(number: u32, mode: u8, lines: &[[u8; 40]]) -> Vec<u8> {
+fn buffer(number: u32, mask: u8, lines: &[[u8; 40]]) -> Vec<u8> {
     let mut bytes = number.to_le_bytes().to_vec();
-    bytes.extend([mode, 0, 0, 0]);
+    bytes.extend([mask, 0, 0, 0]);
     bytes.extend(lines.concat());
     bytes
 }
@@ -178,11 +178,11 @@ fn order_of_interval_refusals() {
     one.interval(5, 1, line(100.0));
     assert_eq!(one.refused(&good, 16), 21);
     assert_eq!(one.refused(&buffer(4, 1, &[line(100.0)]), 16), 21);
-    let mut wrong_mode = good.clone();
-    wrong_mode[4] = 2;
-    assert_eq!(one.refused(&wrong_mode, 16), 9);
-    assert_eq!(one.refused(&wrong_mode, 17), 8);
-    assert_eq!(one.refused(&wrong_mode[..47], 16), 8);
+    let mut wrong_mask = good.clone();
+    wrong_mask[4] = 32;
+    assert_eq!(one.refused(&wrong_mask, 16), 9);
+    assert_eq!(one.refused(&wrong_mask, 17), 8);
+    assert_eq!(one.refused(&wrong_mask[..47], 16), 8);
     for spare in 5..8 {
         let mut bytes = good.clone();
         bytes[spare] = 1;
@@ -252,6 +252,225 @@ fn manual_mode_shows_two_and_its_backlog_declares() {
     assert_eq!(one.0.look(1), Ok(Look { status: 4, small: 0, large: 0, level: 93_000 }));
 }
 
+/// The register with its units in these regions, the first ones first.
+fn in_regions(mut register: Vec<u8>, regions: &[u8]) -> Vec<u8> {
+    for (unit, &region) in regions.iter().enumerate() {
+        register[18 + 4 * unit] = region;
+    }
+    register
+}
+
+/// An interval of this monitor; the status of each point.
+fn statuses(monitor: &mut Monitor, number: u32, mask: u8, lines: &[[u8; 40]]) -> Vec<u8> {
+    let mut report = vec![0; 16 * monitor.plant().unwrap().points()];
+    monitor.interval(&buffer(number, mask, lines), &mut report).unwrap();
+    report.as_chunks().0.iter().map(|bytes| Record::of(bytes).status).collect()
+}
+
+#[test]
+fn masks_up_to_31() {
+    for region in 0..=4 {
+        let mut one = One::new([2, 3, 4, 2, 3, 4]);
+        one.0.load(&in_regions(register([2, 3, 4, 2, 3, 4], &[(1, 0)], &[]), &[region])).unwrap();
+        for mask in 0..=31 {
+            assert_eq!(one.interval(u32::from(mask), mask, line(100.0)).status, 0);
+        }
+        for mask in 32..=255 {
+            assert_eq!(one.refused(&buffer(32, mask, &[line(100.0)]), 16), 9);
+            // 8 goes before, 21 behind.
+            assert_eq!(one.refused(&buffer(32, mask, &[line(100.0)]), 15), 8);
+            assert_eq!(one.refused(&buffer(31, mask, &[line(100.0)]), 16), 9);
+        }
+        assert_eq!(one.refused(&buffer(31, 31, &[line(100.0)]), 16), 21);
+        // A spare beside a mask that is allowed.
+        for spare in 5..8 {
+            let mut bytes = buffer(32, 31, &[line(100.0)]);
+            bytes[spare] = 1;
+            assert_eq!(one.refused(&bytes, 16), 9);
+        }
+    }
+}
+
+#[test]
+fn each_region_by_its_own_bit() {
+    // The regions of two units in no chain, the mask, and which of the two it has in automatic mode.
+    let cases: [([u8; 2], u8, [bool; 2]); 15] = [
+        ([0, 1], 0b00000, [false, false]),
+        ([0, 1], 0b00001, [true, false]),
+        ([0, 1], 0b00010, [false, true]),
+        ([0, 1], 0b00011, [true, true]),
+        // Bits of regions without units.
+        ([0, 1], 0b11100, [false, false]),
+        ([0, 1], 0b11101, [true, false]),
+        ([0, 4], 0b11110, [false, true]),
+        ([0, 4], 0b01111, [true, false]),
+        ([4, 2], 0b10000, [true, false]),
+        ([4, 2], 0b00100, [false, true]),
+        ([4, 2], 0b01011, [false, false]),
+        ([4, 2], 0b11111, [true, true]),
+        ([3, 3], 0b01000, [true, true]),
+        ([3, 3], 0b10111, [false, false]),
+        ([2, 1], 0b00101, [true, false]),
+    ];
+    for (regions, mask, automatic) in cases {
+        let mut monitor = Monitor::new();
+        monitor.load(&in_regions(register([2, 3, 4, 2, 3, 4], &[(1, 0), (1, 0)], &[]), &regions)).unwrap();
+        let mut found = [Vec::new(), Vec::new()];
+        for (number, mw) in [(1, 100.0), (2, 107.0), (3, 107.0), (4, 107.0), (5, 107.0), (6, 107.0)] {
+            let statuses = statuses(&mut monitor, number, mask, &[line(mw); 2]);
+            found[0].push(statuses[0]);
+            found[1].push(statuses[1]);
+        }
+        for (found, automatic) in found.into_iter().zip(automatic) {
+            assert_eq!(found, if automatic { [0, 1, 2, 3, 4, 4] } else { [0, 1, 2, 2, 2, 2] }, "{regions:?} {mask}");
+        }
+    }
+}
+
+#[test]
+fn a_point_waits_in_manual_mode_beside_a_declared_one() {
+    // Unit 1 in region 2, unit 2 in region 0.
+    let mut monitor = Monitor::new();
+    monitor.load(&in_regions(register([2, 3, 4, 2, 3, 4], &[(1, 0), (1, 0)], &[]), &[2, 0])).unwrap();
+    let away = [line(107.0); 2];
+    assert_eq!(statuses(&mut monitor, 1, 0b00001, &[line(100.0); 2]), [0, 0]);
+    for (number, expected) in [(2, [1, 1]), (3, [2, 2]), (4, [2, 3]), (5, [2, 4]), (6, [2, 4])] {
+        assert_eq!(statuses(&mut monitor, number, 0b00001, &away), expected);
+    }
+    assert_eq!(monitor.look(1), Ok(Look { status: 2, small: 5, large: 5, level: 0 }));
+    assert_eq!(monitor.look(2), Ok(Look { status: 4, small: 0, large: 0, level: 107_000 }));
+    // BLANK and DOUBT never declare, in automatic mode they show 3.
+    assert_eq!(statuses(&mut monitor, 7, 0b00100, &[with(away[0], 0, 2), away[1]]), [3, 4]);
+    assert_eq!(statuses(&mut monitor, 8, 0b00101, &[with(away[0], 0, 1), away[1]]), [3, 4]);
+    assert_eq!(statuses(&mut monitor, 9, 0b11011, &away), [2, 4]);
+    assert_eq!(statuses(&mut monitor, 10, 0b00100, &away), [4, 4]);
+    assert_eq!(monitor.reason(1), Ok(Reason::Large { first: 2, last: 10 }));
+    assert_eq!(monitor.reason(2), Ok(Reason::Large { first: 2, last: 5 }));
+    // A declaration stands whatever its region's mode.
+    assert_eq!(statuses(&mut monitor, 11, 0, &[line(100.0); 2]), [4, 4]);
+}
+
+#[test]
+fn a_bit_flipped_between_intervals() {
+    // One unit, in region 1. The mask, the letter of the mark, the status and the run.
+    let intervals = [
+        (0b00010, 'B', 0, 0),
+        (0b00010, 'L', 1, 1),
+        (0b11101, 'L', 2, 2),
+        (0b00010, 'L', 3, 3),
+        (0b11101, 'L', 2, 4),
+        (0b00010, 'D', 3, 4),
+        (0b11101, 'D', 2, 4),
+        (0b00010, 'B', 3, 4),
+        (0b11101, 'B', 2, 4),
+        // The others' bits alone.
+        (0b00000, 'L', 2, 5),
+        (0b00100, 'L', 2, 6),
+        (0b10001, 'L', 2, 7),
+        (0b11111, 'D', 3, 7),
+        (0b00010, 'D', 3, 7),
+        (0b01010, 'L', 4, 0),
+        (0b10101, 'L', 4, 0),
+    ];
+    let mut one = One::new([2, 3, 4, 2, 3, 4]);
+    one.0.load(&in_regions(register([2, 3, 4, 2, 3, 4], &[(1, 0)], &[]), &[1])).unwrap();
+    for (number, (mask, letter, status, run)) in (1..).zip(intervals) {
+        let (mark, line) = marked(letter);
+        assert_eq!(summary(one.interval(number, mask, line)), (status, mark as u8, run, run), "interval {number}");
+    }
+    assert_eq!(one.reason(), large(2, 15));
+    // Not-Responding by its runs, and Pending shown as that in manual mode: an operator may declare at either.
+    let mut one = One::new([2, 3, 4, 2, 3, 4]);
+    one.0.load(&in_regions(register([2, 3, 4, 2, 3, 4], &[(1, 0)], &[]), &[1])).unwrap();
+    for (number, letter) in (1..=5).zip("BLLLL".chars()) {
+        one.interval(number, 0b11101, marked(letter).1);
+    }
+    assert_eq!(one.0.declare(1, 7), Ok(()));
+    assert_eq!(one.reason(), Ok(Reason::Operator));
+}
+
+#[test]
+fn an_aggregate_by_its_members_region() {
+    // Units 3 and 1 a chain in region 3: point 4. Unit 2 in none, in region 0.
+    let units = [(1, 0), (1, 0), (1, 1)];
+    let bytes = in_regions(register([2, 3, 4, 2, 3, 4], &units, &[3]), &[3, 0, 3]);
+    for (mask, expected) in [
+        (0b01000, [[1; 4], [2; 4], [3, 2, 3, 3], [4, 2, 4, 4], [4, 2, 4, 4]]),
+        (0b10111, [[1; 4], [2; 4], [2, 3, 2, 2], [2, 4, 2, 2], [2, 4, 2, 2]]),
+        (0b00001, [[1; 4], [2; 4], [2, 3, 2, 2], [2, 4, 2, 2], [2, 4, 2, 2]]),
+        (0b11110, [[1; 4], [2; 4], [3, 2, 3, 3], [4, 2, 4, 4], [4, 2, 4, 4]]),
+        (0b01001, [[1; 4], [2; 4], [3; 4], [4; 4], [4; 4]]),
+        (0b10110, [[1; 4], [2; 4], [2; 4], [2; 4], [2; 4]]),
+    ] {
+        let mut monitor = Monitor::new();
+        assert_eq!(monitor.load(&bytes), Ok(2));
+        let lines = |mw| [member(mw, 2), line(mw), member(mw, 2)];
+        assert_eq!(statuses(&mut monitor, 1, mask, &lines(100.0)), [0; 4]);
+        for (number, expected) in (2..).zip(expected) {
+            assert_eq!(statuses(&mut monitor, number, mask, &lines(107.0)), expected, "{mask} {number}");
+        }
+        // The sum of its members' MW where it is declared.
+        let level = if mask & 0b01000 == 0 { 0 } else { 214_000 };
+        assert_eq!(monitor.look(4).unwrap().level, level);
+    }
+    // A unit 4,000 above its target and a load 4,000 below: neither is away, and their aggregate is, by 8,000.
+    let mut monitor = Monitor::new();
+    let units = [(2, 0), (1, 0), (1, 1)];
+    monitor.load(&in_regions(register([2, 3, 4, 2, 3, 4], &units, &[3]), &[3, 0, 3])).unwrap();
+    let lines = [member(96.0, 2), line(107.0), member(104.0, 2)];
+    assert_eq!(statuses(&mut monitor, 1, 0b00001, &lines), [0; 4]);
+    for (number, expected) in [(2, [0, 1, 0, 1]), (3, [0, 2, 0, 2]), (4, [0, 3, 0, 2]), (5, [0, 4, 0, 2])] {
+        assert_eq!(statuses(&mut monitor, number, 0b00001, &lines), expected);
+    }
+    assert_eq!(statuses(&mut monitor, 6, 0b01000, &lines), [0, 4, 0, 4]);
+    // 104,000 less the load's 96,000.
+    assert_eq!(monitor.look(4), Ok(Look { status: 4, small: 0, large: 0, level: 8_000 }));
+}
+
+#[test]
+fn regions_of_the_register_loaded_last() {
+    let mut monitor = Monitor::new();
+    let load = |monitor: &mut Monitor, regions: &[u8], heads: &[u8]| {
+        let bytes = register([2, 3, 4, 2, 3, 4], &[(1, 0), (1, if heads.is_empty() { 0 } else { 1 })], heads);
+        monitor.load(&in_regions(bytes, regions)).map_err(|refusal| refusal.number())
+    };
+    let lines = |mw| [line(mw); 2];
+    for (regions, expected) in [([4, 0], [4, 2]), ([0, 4], [2, 4]), ([4, 4], [4, 4]), ([1, 3], [2, 2])] {
+        assert_eq!(load(&mut monitor, &regions, &[]), Ok(0));
+        assert_eq!(statuses(&mut monitor, 1, 0b10000, &lines(100.0)), [0; 2]);
+        for number in 2..=4 {
+            statuses(&mut monitor, number, 0b10000, &lines(107.0));
+        }
+        // Refused loads leave the regions as they were: one above 4, and a chain across two.
+        let before = monitor.clone();
+        assert_eq!(load(&mut monitor, &[5, 0], &[]), Err(4));
+        assert_eq!(load(&mut monitor, &[0, 255], &[2]), Err(4));
+        assert_eq!(load(&mut monitor, &[0, 4], &[2]), Err(37));
+        assert_eq!(load(&mut monitor, &[4, 0], &[2]), Err(37));
+        assert!(monitor == before);
+        assert_eq!(statuses(&mut monitor, 5, 0b10000, &lines(107.0)), expected);
+    }
+    // The same units as a chain in one region.
+    assert_eq!(load(&mut monitor, &[2, 2], &[2]), Ok(2));
+}
+
+#[test]
+fn every_region_prints_the_worked_example() {
+    let example = "10 1 0 1 0 0 0 0 0\n11 1 1 5 1 1 7000 600000 0\n12 1 2 5 2 2 -7000 600000 0\n";
+    for region in 0..=4 {
+        let register = in_regions(register([2, 3, 4, 2, 3, 4], &[(1, 0)], &[]), &[region]);
+        for (mask, last) in [(1 << region, "13 1 3 5 3 3"), (31, "13 1 3 5 3 3"), (31 - (1 << region), "13 1 2 5 3 3")]
+        {
+            let intervals = [(10, 100.0), (11, 107.0), (12, 93.0), (13, 93.0)]
+                .map(|(number, mw)| buffer(number, mask, &[line(mw)]))
+                .concat();
+            let mut out = Vec::new();
+            program::run(&register, &intervals, &mut out).unwrap();
+            assert_eq!(String::from_utf8(out).unwrap(), format!("{example}{last} -7000 600000 0\n"));
+        }
+    }
+}
+
 #[test]
 fn runs_stop_at_255() {
     let mut one = One::new([2, 3, 255, 2, 3, 255]);
@@ -285,7 +504,7 @@ fn jumps_and_unreadable_lines_leave_nothing_kept() {
     assert_eq!(summary(one.interval(8, 1, with(line(107.0), 0, 2))), (2, 1, 2, 2));
     assert_eq!(summary(one.interval(9, 1, line(107.0))), (3, 5, 3, 3));
     // A refused interval keeps nothing and makes nothing stale.
-    assert_eq!(one.refused(&buffer(10, 2, &[line(100.0)]), 16), 9);
+    assert_eq!(one.refused(&buffer(10, 32, &[line(100.0)]), 16), 9);
     assert_eq!(summary(one.interval(10, 1, line(100.0))), (0, 2, 0, 0));
 }
 
@@ -1065,7 +1284,7 @@ fn what_changes_no_target() {
         stands(&monitor);
     }
     for (bytes, refusal) in [
-        (buffer(4, 2, &lines), 9),
+        (buffer(4, 32, &lines), 9),
         ([&[4, 0, 0, 0, 0, 0, 1, 0][..], &other[8..]].concat(), 9),
         (buffer(3, 0, &lines), 21),
         (buffer(0, 1, &lines), 21),
@@ -1104,7 +1323,7 @@ fn a_load_leaves_no_target() {
         // The same bytes again; the next interval may have any number.
         monitor.load(&two_chains()).unwrap();
         assert_eq!([target(&monitor, 6), target(&monitor, 7)], [NOTHING_KEPT; 2]);
-        assert_eq!(monitor.interval(&buffer(9, 2, &lines_of_two_chains()), &mut report).unwrap_err().number(), 9);
+        assert_eq!(monitor.interval(&buffer(9, 32, &lines_of_two_chains()), &mut report).unwrap_err().number(), 9);
         assert_eq!([target(&monitor, 6), target(&monitor, 7)], [NOTHING_KEPT; 2]);
         monitor.interval(&buffer(first, 1, &lines_of_two_chains()), &mut report).unwrap();
         assert_eq!([target(&monitor, 6), target(&monitor, 7)], [FIRST_CHAIN, SECOND_CHAIN]);
@@ -1411,6 +1630,9 @@ fn program_refusals() {
     assert_eq!(text(&[], &[1, 2, 3]), "refused 1\n");
     assert_eq!(text(&register([2, 3, 4, 2, 3, 4], &[(4, 0)], &[1]), &[]), "refused 30\n");
     assert_eq!(text(&register([2, 3, 4, 2, 3, 4], &[(5, 0)], &[]), &[]), "refused 4\n");
+    assert_eq!(text(&in_regions(register([2, 3, 4, 2, 3, 4], &[(1, 2), (1, 0)], &[1]), &[1, 0]), &[]), "refused 37\n");
+    assert_eq!(text(&in_regions(good.clone(), &[5]), &[]), "refused 4\n");
+    assert_eq!(text(&good, &buffer(7, 32, &[line(100.0)])), "refused 9\n");
     assert_eq!(text(&good, &[]), "");
     assert_eq!(text(&good, &[0; 5]), "refused 8\n");
     let bytes = [buffer(7, 1, &[line(100.0)]), buffer(7, 1, &[line(100.0)]), buffer(8, 1, &[line(100.0)])].concat();
