@@ -5,8 +5,9 @@
 
 use crate::line::Kind;
 use crate::marks::Triggers;
+use crate::monitor::HIGHEST_MASK;
 use crate::random_chains::{deal, deck, nexts, shuffle, ORDERS};
-use crate::register::Plant;
+use crate::register::{Plant, REGIONS};
 use crate::replay::Script;
 
 /// A list ends when it has grown to this many bytes.
@@ -14,6 +15,8 @@ const LONGEST: usize = 160_000;
 const LIMIT: i64 = 2_000_000;
 /// So many interval numbers are near the last there is.
 const LAST_NUMBERS: u32 = 24;
+/// Regions that there are not.
+const NO_REGIONS: [u8; 9] = [5, 5, 6, 7, 8, 16, 31, 128, 255];
 /// Bounds of an operator's level, and beside them.
 const LEVELS: [i32; 9] = [i32::MIN, -128_000_001, -128_000_000, -1, 0, 1, 128_000_000, 128_000_001, i32::MAX];
 
@@ -99,6 +102,7 @@ struct Group {
 #[derive(Clone)]
 struct Unit {
     kind: Kind,
+    region: u8,
     target: i64,
     availability: u32,
     raise: u32,
@@ -140,6 +144,21 @@ impl Sketch {
 
     fn semi_scheduled(&self) -> Vec<usize> {
         (0..self.units.len()).filter(|&unit| self.units[unit].kind == Kind::SemiScheduled).collect()
+    }
+
+    fn region(&self, group: &Group) -> u8 {
+        self.units[group.units[0]].region
+    }
+
+    /// The bits of the regions that have units.
+    fn occupied(&self) -> u8 {
+        self.units.iter().fold(0, |mask, unit| mask | 1 << unit.region)
+    }
+
+    /// Aggregates that can be brought across regions: those with two members, or all if there is a unit to join them.
+    fn mixable(&self) -> Vec<usize> {
+        let none = self.loners().is_empty();
+        (0..self.aggregates).filter(|&aggregate| !none || self.groups[aggregate].units.len() > 1).collect()
     }
 
     /// Points of the groups that have been away for long enough to be at Not-Responding or beyond.
@@ -264,11 +283,24 @@ impl Shape {
     }
 }
 
+/// The modes of the regions that have units.
 #[derive(Clone, Copy, PartialEq, Eq)]
 enum Modes {
     Manual,
     Automatic,
-    Mixed,
+    /// All of them by turns in manual and in automatic mode.
+    Together,
+    /// Each by itself.
+    Apart,
+    /// Any mask at each interval.
+    Any,
+}
+
+impl Modes {
+    /// Some that change, but not at each interval.
+    fn lasting(random: &mut Random) -> Self {
+        random.pick(&[Self::Together, Self::Apart])
+    }
 }
 
 /// What befalls the lines of an aggregate's members in one interval.
@@ -302,7 +334,8 @@ struct Author {
     /// Number of the interval sent last.
     number: Option<u32>,
     modes: Modes,
-    manual_now: bool,
+    /// The mask of the interval sent last.
+    mask: u8,
     /// Of the next interval.
     trouble: Option<Trouble>,
     /// Damaged lines and bad telemetry, of a thousand lines of a small plant.
@@ -316,7 +349,13 @@ struct Author {
 impl Author {
     fn new(seed: u64) -> Self {
         let mut random = Random(seed);
-        let modes = random.pick(&[Modes::Manual, Modes::Automatic, Modes::Automatic, Modes::Mixed, Modes::Mixed]);
+        let modes = match random.below(10) {
+            0 => Modes::Manual,
+            1..=3 => Modes::Automatic,
+            4 => Modes::Any,
+            _ => Modes::lasting(&mut random),
+        };
+        let mask = if modes == Modes::Together { HIGHEST_MASK } else { any_mask(&mut random) };
         let noise = random.pick(&[0, 20, 20, 60, 150]);
         let operators = random.pick(&[0, 60, 150, 300]);
         Self {
@@ -325,7 +364,7 @@ impl Author {
             sketch: None,
             number: None,
             modes,
-            manual_now: modes == Modes::Manual,
+            mask,
             trouble: None,
             noise,
             operators,
@@ -416,7 +455,7 @@ impl Author {
                 if self.random.chance(100) {
                     self.ask_targets();
                 }
-            } else if self.modes == Modes::Mixed && self.manual_now && self.random.chance(60) {
+            } else if self.may_hand_over() && self.random.chance(60) {
                 self.hand_over();
             } else {
                 self.interval();
@@ -430,9 +469,28 @@ impl Author {
         }
     }
 
-    /// From manual to automatic mode: a backlog waits, as no mark of the first interval counts, and then declares.
+    /// The bits of the regions that have units and are in manual mode.
+    fn manual(&self) -> u8 {
+        self.sketch.as_ref().map_or(0, |sketch| sketch.occupied() & !self.mask)
+    }
+
+    fn may_hand_over(&self) -> bool {
+        matches!(self.modes, Modes::Together | Modes::Apart) && self.manual() != 0
+    }
+
+    /// From manual to automatic mode: a backlog waits, as no mark of the first interval counts, and then declares. Either all
+    /// regions, or one of those where a group is away.
     fn hand_over(&mut self) {
-        self.manual_now = false;
+        let manual = self.manual();
+        let away: Vec<u8> = self
+            .sketch
+            .iter()
+            .flat_map(|sketch| {
+                let away = sketch.groups.iter().filter(|group| group.away >= 2);
+                away.map(|group| 1 << sketch.region(group)).filter(|bit| manual & bit != 0)
+            })
+            .collect();
+        self.mask |= if self.modes == Modes::Apart && !away.is_empty() { self.random.pick(&away) } else { manual };
         let troubles = [Trouble::Jump, Trouble::Quality(1), Trouble::Quality(1), Trouble::Quality(2)];
         self.trouble = Some(self.random.pick(&troubles));
         self.interval();
@@ -446,7 +504,6 @@ impl Author {
         let units = self.random.below(6) + 1;
         self.load_sound(Some(units));
         self.modes = Modes::Manual;
-        self.manual_now = true;
         self.stubborn = true;
         self.noise = self.random.pick(&[0, 0, 3]);
         self.operators = self.random.pick(&[0, 0, 5]);
@@ -458,7 +515,7 @@ impl Author {
             }
         }
         self.operator_calls();
-        self.modes = Modes::Mixed;
+        self.modes = Modes::lasting(&mut self.random);
         if self.random.chance(950) {
             self.hand_over();
         }
@@ -489,7 +546,7 @@ impl Author {
         }
         let chains = shape.chains(random, &mut unused);
         let one_kind = random.chance(200).then(|| random.within(1, 3) as u8);
-        let units: Vec<Unit> = (0..n)
+        let mut units: Vec<Unit> = (0..n)
             .map(|unit| {
                 let kind = match one_kind {
                     _ if semi_scheduled.contains(&unit) => 4,
@@ -499,6 +556,8 @@ impl Author {
                 sketch_unit(random, Kind::of(u32::from(kind)).unwrap_or(Kind::Generating))
             })
             .collect();
+        spread_regions(random, &mut units);
+        join_regions(&mut units, &chains);
         let bytes = register_bytes(random, &units, &chains);
         (bytes, Sketch::new(units, &chains))
     }
@@ -506,7 +565,7 @@ impl Author {
     /// Bytes of an acceptable register of the same units in other chains, and its sketch; now and then in the same chains.
     fn regrouped(&mut self, sketch: &Sketch) -> (Vec<u8>, Sketch) {
         let random = &mut self.random;
-        let units: Vec<Unit> = sketch.units.iter().map(|unit| Unit { sent: None, ..unit.clone() }).collect();
+        let mut units: Vec<Unit> = sketch.units.iter().map(|unit| Unit { sent: None, ..unit.clone() }).collect();
         let earlier = sketch.chains();
         let mut chains = earlier.clone();
         match random.below(8) {
@@ -535,6 +594,10 @@ impl Author {
             unused.retain(|&unit| units[unit].kind != Kind::SemiScheduled);
             chains = Shape::Any(units.len()).chains(random, &mut unused);
         }
+        if random.chance(250) {
+            spread_regions(random, &mut units);
+        }
+        join_regions(&mut units, &chains);
         let bytes = register_bytes(random, &units, &chains);
         (bytes, Sketch::new(units, &chains))
     }
@@ -560,7 +623,7 @@ impl Author {
         }
     }
 
-    /// Loads the same units in other chains, refused for what these meet: 6, 7 or 30.
+    /// Loads the same units in other chains, refused for what these meet: 6, 7, 30 or 37.
     fn load_broken_chains(&mut self) {
         let Some(sketch) = self.sketch.take() else { return self.load_damaged() };
         let (mut bytes, other) = self.regrouped(&sketch);
@@ -568,9 +631,10 @@ impl Author {
         let (chains, random) = (other.chains(), &mut self.random);
         let loners = other.loners();
         let next = |unit: usize| 17 + 4 * unit;
-        match (random.below(3), chains.last()) {
+        match (random.below(4), chains.last()) {
             (0, Some(chain)) => set(&mut bytes, 16 + 4 * random.pick(chain), 4),
-            (1, Some(_)) if !loners.is_empty() => set(&mut bytes, next(random.pick(&loners)), loners[0] as u8 + 1),
+            (1, Some(_)) if !other.mixable().is_empty() => mix_regions(random, &mut bytes, &other),
+            (2, Some(_)) if !loners.is_empty() => set(&mut bytes, next(random.pick(&loners)), loners[0] as u8 + 1),
             (_, Some(chain)) => {
                 let into = random.pick(&chains.concat()) as u8 + 1;
                 set(&mut bytes, next(chain[chain.len() - 1]), into);
@@ -615,7 +679,7 @@ impl Author {
         let heads = 16 + 4 * n;
         let head = heads + 4 * random.below(m.max(1));
         let some_unit = random.within(1, n as i64) as u8;
-        match random.below(18) {
+        match random.below(22) {
             0 => bytes.truncate(random.below(16)),
             1 => match random.below(4) {
                 0 => bytes.push(0),
@@ -640,18 +704,19 @@ impl Author {
                     _ => set(bytes, at + random.below(3), random.byte()),
                 }
             }
-            4 => match random.below(6) {
+            4 | 5 => match random.below(10) {
                 0 => set(bytes, 8 + random.below(8), random.pick(&[1, 2, 255])),
                 1..=3 => set(bytes, unit, random.pick(&[0, 5, 5, 6, 128, 255])),
-                4 => set(bytes, unit + 2 + random.below(2), random.pick(&[1, 128])),
+                4 => set(bytes, unit + 3, random.pick(&[1, 128])),
+                5..=8 => set(bytes, unit + 2, random.pick(&NO_REGIONS)),
                 _ => set(bytes, head + 1 + random.below(3), random.pick(&[1, 255])),
             },
-            5 => match random.below(4) {
+            6 => match random.below(4) {
                 0 | 1 => set(bytes, unit + 1, random.pick(&[n as u8 + 1, 65, 255])),
                 2 => set(bytes, head, 0),
                 _ => set(bytes, head, random.pick(&[n as u8 + 1, 255])),
             },
-            6 | 7 => {
+            7 | 8 => {
                 // Two equal heads, or a chain into a chain's head or into its own unit.
                 if m > 1 && random.chance(300) {
                     let first = get(bytes, heads);
@@ -666,7 +731,7 @@ impl Author {
                     set(bytes, 13 + 4 * at, random.pick(&[into, into, at as u8]));
                 }
             }
-            8 | 9 => {
+            9 | 10 => {
                 // A next in a unit that no chain meets, or a chain cut off behind its head.
                 if m > 0 && random.chance(500) {
                     bytes.truncate(heads);
@@ -679,13 +744,24 @@ impl Author {
                     set(bytes, unit + 1, some_unit);
                 }
             }
-            10..=15 => {
+            11..=16 => {
                 chain_semi_scheduled(random, bytes, sketch);
                 // A second one, or a next in a unit that no chain meets, whose refusal goes before.
                 let loners = sketch.loners();
                 match random.below(10) {
                     0 | 1 => chain_semi_scheduled(random, bytes, sketch),
                     2..=5 if !loners.is_empty() => set(bytes, 17 + 4 * random.pick(&loners), some_unit),
+                    _ => {}
+                }
+            }
+            17..=20 => {
+                mix_regions(random, bytes, sketch);
+                // Another chain too, or what is refused before.
+                let loners = sketch.loners();
+                match random.below(10) {
+                    0 | 1 => mix_regions(random, bytes, sketch),
+                    2 | 3 => chain_semi_scheduled(random, bytes, sketch),
+                    4 | 5 if !loners.is_empty() => set(bytes, 17 + 4 * random.pick(&loners), some_unit),
                     _ => {}
                 }
             }
@@ -704,29 +780,29 @@ impl Author {
             return;
         };
         let long_run = self.stubborn;
-        if self.modes == Modes::Mixed && self.random.chance(120) {
-            self.manual_now = !self.manual_now;
-        }
+        self.next_mask(sketch.occupied());
         let (mut number, rising) = self.next_number(long_run);
         let trouble = self.trouble.take();
         if rising && trouble == Some(Trouble::Jump) {
             number = number.saturating_add(1);
         }
         // Manual mode up to the last number there is, where a backlog declares.
-        if self.modes == Modes::Mixed && number > u32::MAX - LAST_NUMBERS {
-            self.manual_now = number < u32::MAX;
+        if matches!(self.modes, Modes::Together | Modes::Apart) && number > u32::MAX - LAST_NUMBERS {
+            self.mask = if number < u32::MAX { self.mask & !sketch.occupied() } else { self.mask | sketch.occupied() };
         }
         let mut accepted = rising;
         let mut buffer = number.to_le_bytes().to_vec();
-        buffer.extend([u8::from(!self.manual_now), 0, 0, 0]);
+        buffer.extend([self.mask, 0, 0, 0]);
         let rough = if long_run { 2 } else { 12 };
         if self.random.chance(rough) {
             accepted = false;
-            match self.random.below(3) {
-                0 => buffer[4] = self.random.pick(&[2, 3, 128, 255]),
-                1 => buffer[5 + self.random.below(3)] = self.random.pick(&[1, 255]),
+            match self.random.below(6) {
+                0 | 1 => buffer[4] = self.random.pick(&[32, 33, 63, 64, 128, 255]),
+                // The regions' bits as they would be.
+                2 | 3 => buffer[4] |= self.random.pick(&[32, 64, 128]),
+                4 => buffer[5 + self.random.below(3)] = self.random.pick(&[1, 255]),
                 _ => {
-                    buffer[4] = 2;
+                    buffer[4] = 32;
                     buffer[7] = 1;
                 }
             }
@@ -815,6 +891,29 @@ impl Author {
         self.sketch = Some(sketch);
         if !long_run && self.random.chance(asked) {
             self.ask_targets();
+        }
+    }
+
+    /// The mask of the next interval. Regions without units come and go.
+    fn next_mask(&mut self, occupied: u8) {
+        let random = &mut self.random;
+        if random.chance(150) {
+            self.mask = (self.mask & occupied) | (any_mask(random) & !occupied);
+        }
+        match self.modes {
+            Modes::Manual => self.mask &= !occupied,
+            Modes::Automatic => self.mask |= occupied,
+            Modes::Together => {
+                // Registers of other regions may have left them apart.
+                let automatic = (self.mask & occupied != 0) != random.chance(120);
+                self.mask = if automatic { self.mask | occupied } else { self.mask & !occupied };
+            }
+            Modes::Apart => {
+                for region in 0..REGIONS {
+                    self.mask ^= u8::from(random.chance(90)) << region;
+                }
+            }
+            Modes::Any => self.mask = any_mask(random),
         }
     }
 
@@ -1183,6 +1282,39 @@ pub(crate) fn float_bits(kw: i64) -> u32 {
     ((kw as f64 / 1000.0) as f32).to_bits()
 }
 
+/// None, all, one region, all but one, or any.
+fn any_mask(random: &mut Random) -> u8 {
+    let one = 1 << random.below(usize::from(REGIONS));
+    match random.below(10) {
+        0 => 0,
+        1 => HIGHEST_MASK,
+        2 | 3 => one,
+        4 | 5 => HIGHEST_MASK - one,
+        _ => random.byte() & HIGHEST_MASK,
+    }
+}
+
+/// Gives units their regions: all the same one, one of two, or any.
+fn spread_regions(random: &mut Random, units: &mut [Unit]) {
+    let all: Vec<u8> = (0..REGIONS).collect();
+    let [one, other] = [random.pick(&all), random.pick(&all)];
+    let regions = match random.below(10) {
+        0 => vec![0],
+        1 => vec![one],
+        2..=4 => vec![one, other],
+        _ => all,
+    };
+    units.iter_mut().for_each(|unit| unit.region = random.pick(&regions));
+}
+
+/// Brings each chain into the region of its first member.
+fn join_regions(units: &mut [Unit], chains: &[Vec<usize>]) {
+    for chain in chains {
+        let region = units[chain[0]].region;
+        chain.iter().for_each(|&unit| units[unit].region = region);
+    }
+}
+
 fn random_word(points: u32) -> u32 {
     points.wrapping_mul(0x9E37_79B1) | 0x100
 }
@@ -1246,7 +1378,7 @@ fn register_bytes(random: &mut Random, units: &[Unit], chains: &[Vec<usize>]) ->
     }
     bytes.extend([0; 8]);
     let nexts = nexts(units.len(), chains);
-    bytes.extend(units.iter().zip(nexts).flat_map(|(unit, next)| [unit.kind as u8, next, 0, 0]));
+    bytes.extend(units.iter().zip(nexts).flat_map(|(unit, next)| [unit.kind as u8, next, unit.region, 0]));
     bytes.extend(chains.iter().flat_map(|chain| [chain[0] as u8 + 1, 0, 0, 0]));
     bytes
 }
@@ -1265,6 +1397,7 @@ fn sketch_unit(random: &mut Random, kind: Kind) -> Unit {
     };
     Unit {
         kind,
+        region: 0,
         target: if kind.is_signed() && random.chance(500) { -target } else { target },
         availability: match random.below(8) {
             0 => random.within(0, 120_000) as u32,
@@ -1304,6 +1437,40 @@ fn chain_semi_scheduled(random: &mut Random, bytes: &mut [u8], sketch: &Sketch) 
     } else {
         set(bytes, next(unit), chain[0] as u8 + 1);
         set(bytes, 16 + 4 * (sketch.units.len() + aggregate), unit as u8 + 1);
+    }
+}
+
+/// Brings a chain across regions: some members move to another one, or a unit that stood in no chain goes in front or behind.
+fn mix_regions(random: &mut Random, bytes: &mut [u8], sketch: &Sketch) {
+    let mixable = sketch.mixable();
+    let Some(&last) = mixable.last() else { return };
+    let (next, region) = (|unit: usize| 17 + 4 * unit, |unit: usize| 18 + 4 * unit);
+    let aggregate = if random.chance(300) { last } else { random.pick(&mixable) };
+    let group = &sketch.groups[aggregate];
+    let (chain, own) = (&group.units, sketch.region(group));
+    let other = (own + random.within(1, i64::from(REGIONS) - 1) as u8) % REGIONS;
+    let loners = sketch.loners();
+    if chain.len() > 1 && (loners.is_empty() || random.chance(800)) {
+        let end = chain.len() - 1;
+        let moved = match random.below(10) {
+            0 | 1 => &chain[..1],
+            2..=4 => &chain[end..],
+            5 => &chain[1 + random.below(end)..],
+            _ => {
+                let place = random.below(chain.len());
+                &chain[place..=place]
+            }
+        };
+        moved.iter().for_each(|&unit| set(bytes, region(unit), other));
+    } else {
+        let unit = random.pick(&loners);
+        set(bytes, region(unit), other);
+        if random.chance(500) {
+            set(bytes, next(chain[chain.len() - 1]), unit as u8 + 1);
+        } else {
+            set(bytes, next(unit), chain[0] as u8 + 1);
+            set(bytes, 16 + 4 * (sketch.units.len() + aggregate), unit as u8 + 1);
+        }
     }
 }
 
