@@ -16,7 +16,7 @@ const LIMIT: i64 = 2_000_000;
 /// So many interval numbers are near the last there is.
 const LAST_NUMBERS: u32 = 24;
 /// Regions that there are not.
-const NO_REGIONS: [u8; 9] = [5, 5, 6, 7, 8, 16, 31, 128, 255];
+const NO_REGIONS: [u8; 10] = [5, 5, 5, 6, 8, 16, 31, 128, 255, 255];
 /// Bounds of an operator's level, and beside them.
 const LEVELS: [i32; 9] = [i32::MIN, -128_000_001, -128_000_000, -1, 0, 1, 128_000_000, 128_000_001, i32::MAX];
 
@@ -232,9 +232,9 @@ enum Shape {
 impl Shape {
     fn any(random: &mut Random) -> Self {
         match random.below(100) {
-            0..=3 => return Self::OneChainOf64,
-            4..=7 => return Self::SixteenOf4,
-            8..=12 => return Self::SixteenOf1,
+            0..=4 => return Self::OneChainOf64,
+            5..=8 => return Self::SixteenOf4,
+            9..=13 => return Self::SixteenOf1,
             _ => {}
         }
         Self::Any(match random.below(100) {
@@ -299,7 +299,7 @@ enum Modes {
 impl Modes {
     /// Some that change, but not at each interval.
     fn lasting(random: &mut Random) -> Self {
-        random.pick(&[Self::Together, Self::Apart])
+        random.pick(&[Self::Together, Self::Apart, Self::Apart, Self::Apart])
     }
 }
 
@@ -351,8 +351,8 @@ impl Author {
         let mut random = Random(seed);
         let modes = match random.below(10) {
             0 => Modes::Manual,
-            1..=3 => Modes::Automatic,
-            4 => Modes::Any,
+            1 | 2 => Modes::Automatic,
+            3 => Modes::Any,
             _ => Modes::lasting(&mut random),
         };
         let mask = if modes == Modes::Together { HIGHEST_MASK } else { any_mask(&mut random) };
@@ -373,7 +373,7 @@ impl Author {
     }
 
     fn write(mut self) -> Vec<u8> {
-        if self.random.chance(180) {
+        if self.random.chance(250) {
             for _ in 0..self.random.within(1, 4) {
                 self.call_without_register();
             }
@@ -402,7 +402,7 @@ impl Author {
     }
 
     fn call_without_register(&mut self) {
-        match self.random.below(8) {
+        match self.random.below(9) {
             0 => {
                 let register = self.damaged_register();
                 if Plant::load(&register).is_err() {
@@ -414,16 +414,16 @@ impl Author {
                 let buffer: Vec<u8> = (0..length).map(|_| self.random.byte()).collect();
                 self.script.interval(16, &buffer);
             }
-            2 => self.script.declare(self.random.below(3) as u32, self.random.pick(&LEVELS)),
-            3 => self.script.reinstate(0),
-            4 => self.script.look(1),
-            5 => self.script.reason(self.random.pick(&[0, 0, 1, 2])),
+            2 | 3 => self.script.declare(self.random.below(3) as u32, self.random.pick(&LEVELS)),
+            4 => self.script.reinstate(0),
+            5 => self.script.look(1),
+            6 => self.script.reason(self.random.pick(&[0, 0, 0, 1, 2])),
             _ => self.script.target(self.random.pick(&[0, 0, 1, 2])),
         }
     }
 
     fn first_loads(&mut self) {
-        while self.random.chance(500) {
+        while self.random.chance(750) {
             self.load_damaged();
         }
         if !self.random.chance(15) {
@@ -537,7 +537,7 @@ impl Author {
         // Set aside before the chains, which often take all there are.
         let mut semi_scheduled = Vec::new();
         match shape {
-            Shape::Any(_) if random.chance(500) => {
+            Shape::Any(_) if random.chance(600) => {
                 let count = if random.chance(150) { n } else { random.below(n.min(4)) + 1 };
                 semi_scheduled = deal(&mut unused, count);
             }
@@ -679,7 +679,7 @@ impl Author {
         let heads = 16 + 4 * n;
         let head = heads + 4 * random.below(m.max(1));
         let some_unit = random.within(1, n as i64) as u8;
-        match random.below(22) {
+        match random.below(30) {
             0 => bytes.truncate(random.below(16)),
             1 => match random.below(4) {
                 0 => bytes.push(0),
@@ -704,19 +704,22 @@ impl Author {
                     _ => set(bytes, at + random.below(3), random.byte()),
                 }
             }
-            4 | 5 => match random.below(10) {
+            4 => match random.below(6) {
                 0 => set(bytes, 8 + random.below(8), random.pick(&[1, 2, 255])),
                 1..=3 => set(bytes, unit, random.pick(&[0, 5, 5, 6, 128, 255])),
                 4 => set(bytes, unit + 3, random.pick(&[1, 128])),
-                5..=8 => set(bytes, unit + 2, random.pick(&NO_REGIONS)),
                 _ => set(bytes, head + 1 + random.below(3), random.pick(&[1, 255])),
             },
-            6 => match random.below(4) {
+            5 | 6 => {
+                let any = random.below(n);
+                set(bytes, 18 + 4 * random.pick(&[0, n - 1, any]), random.pick(&NO_REGIONS));
+            }
+            7 => match random.below(4) {
                 0 | 1 => set(bytes, unit + 1, random.pick(&[n as u8 + 1, 65, 255])),
                 2 => set(bytes, head, 0),
                 _ => set(bytes, head, random.pick(&[n as u8 + 1, 255])),
             },
-            7 | 8 => {
+            8 | 9 => {
                 // Two equal heads, or a chain into a chain's head or into its own unit.
                 if m > 1 && random.chance(300) {
                     let first = get(bytes, heads);
@@ -731,7 +734,7 @@ impl Author {
                     set(bytes, 13 + 4 * at, random.pick(&[into, into, at as u8]));
                 }
             }
-            9 | 10 => {
+            10 | 11 => {
                 // A next in a unit that no chain meets, or a chain cut off behind its head.
                 if m > 0 && random.chance(500) {
                     bytes.truncate(heads);
@@ -744,7 +747,7 @@ impl Author {
                     set(bytes, unit + 1, some_unit);
                 }
             }
-            11..=16 => {
+            12..=16 => {
                 chain_semi_scheduled(random, bytes, sketch);
                 // A second one, or a next in a unit that no chain meets, whose refusal goes before.
                 let loners = sketch.loners();
@@ -754,14 +757,14 @@ impl Author {
                     _ => {}
                 }
             }
-            17..=20 => {
+            17..=28 => {
                 mix_regions(random, bytes, sketch);
                 // Another chain too, or what is refused before.
                 let loners = sketch.loners();
                 match random.below(10) {
-                    0 | 1 => mix_regions(random, bytes, sketch),
-                    2 | 3 => chain_semi_scheduled(random, bytes, sketch),
-                    4 | 5 if !loners.is_empty() => set(bytes, 17 + 4 * random.pick(&loners), some_unit),
+                    0..=3 => mix_regions(random, bytes, sketch),
+                    4 | 5 => chain_semi_scheduled(random, bytes, sketch),
+                    6 | 7 if !loners.is_empty() => set(bytes, 17 + 4 * random.pick(&loners), some_unit),
                     _ => {}
                 }
             }
@@ -910,7 +913,7 @@ impl Author {
             }
             Modes::Apart => {
                 for region in 0..REGIONS {
-                    self.mask ^= u8::from(random.chance(90)) << region;
+                    self.mask ^= u8::from(random.chance(70)) << region;
                 }
             }
             Modes::Any => self.mask = any_mask(random),
@@ -1301,7 +1304,7 @@ fn spread_regions(random: &mut Random, units: &mut [Unit]) {
     let regions = match random.below(10) {
         0 => vec![0],
         1 => vec![one],
-        2..=4 => vec![one, other],
+        2 | 3 => vec![one, other],
         _ => all,
     };
     units.iter_mut().for_each(|unit| unit.region = random.pick(&regions));
@@ -1442,22 +1445,34 @@ fn chain_semi_scheduled(random: &mut Random, bytes: &mut [u8], sketch: &Sketch) 
 
 /// Brings a chain across regions: some members move to another one, or a unit that stood in no chain goes in front or behind.
 fn mix_regions(random: &mut Random, bytes: &mut [u8], sketch: &Sketch) {
-    let mixable = sketch.mixable();
-    let Some(&last) = mixable.last() else { return };
+    let mut mixable = sketch.mixable();
+    // Chains with a member between the ends first.
+    if random.chance(700) {
+        mixable.sort_by_key(|&aggregate| sketch.groups[aggregate].units.len() >= 3);
+    }
+    let (Some(&first), Some(&last)) = (mixable.first(), mixable.last()) else { return };
     let (next, region) = (|unit: usize| 17 + 4 * unit, |unit: usize| 18 + 4 * unit);
-    let aggregate = if random.chance(300) { last } else { random.pick(&mixable) };
+    let aggregate = match random.below(20) {
+        0..=3 => first,
+        4..=9 => last,
+        _ => random.pick(&mixable),
+    };
     let group = &sketch.groups[aggregate];
     let (chain, own) = (&group.units, sketch.region(group));
-    let other = (own + random.within(1, i64::from(REGIONS) - 1) as u8) % REGIONS;
+    let other = match own {
+        0 | 4 if random.chance(400) => 4 - own,
+        _ => (own + random.within(1, i64::from(REGIONS) - 1) as u8) % REGIONS,
+    };
     let loners = sketch.loners();
     if chain.len() > 1 && (loners.is_empty() || random.chance(800)) {
         let end = chain.len() - 1;
-        let moved = match random.below(10) {
-            0 | 1 => &chain[..1],
-            2..=4 => &chain[end..],
-            5 => &chain[1 + random.below(end)..],
+        let moved = match random.below(12) {
+            0..=2 => &chain[..1],
+            3..=7 => &chain[end..],
+            8 => &chain[1 + random.below(end)..],
+            // One between the ends, if there is one.
             _ => {
-                let place = random.below(chain.len());
+                let place = 1 + random.below(end.max(2) - 1);
                 &chain[place..=place]
             }
         };

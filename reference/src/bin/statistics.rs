@@ -5,8 +5,9 @@ use conformance::frames::{HEAD, MAX_PAYLOAD};
 use conformance::ledger::{self, Conduct, Date, Ledger};
 use conformance::line::{Kind, Line, Quality, LINE};
 use conformance::marks::{assess_aggregate, Member, Pass};
-use conformance::monitor::{Record, HEADER, NON_CONFORMING, NOT_RESPONDING, PENDING};
+use conformance::monitor::{Record, HEADER, HIGHEST_MASK, NON_CONFORMING, NOT_RESPONDING, PENDING};
 use conformance::random_ledgers::{Sort, SORTS};
+use conformance::register::REGIONS;
 use conformance::replay::{self, Call, Calls, MAX_REPORT};
 use conformance::response::{self, Assessment, Flag};
 use conformance::{passes, random_calls, random_days, random_ledgers, random_passes};
@@ -181,6 +182,82 @@ const OTHER_CHAINS: &str = "other chains over the same units";
 /// as many units whose chains were walked.
 const THEN_REFUSED: [&str; 2] =
     ["other chains over the same units, then a refused load", "then a refused load that walked other chains"];
+/// What is asked of the regions of accepted registers.
+const REGISTERS: [&str; 9] = [
+    "units in 1 region",
+    "units in 2 regions",
+    "units in 3 regions",
+    "units in 4 regions",
+    "units in 5 regions",
+    "all units in region 0",
+    "chains in two regions or more",
+    "chains in two regions or more, each of two members or more",
+    "the units of before, in other regions",
+];
+/// What is asked of the registers refused by 4 for a region above 4.
+const NO_REGIONS: [&str; 7] = [
+    "region 5",
+    "region 255",
+    "another region",
+    "in the first unit",
+    "in the last of two units or more",
+    "in a register without aggregates",
+    "in a register with aggregates",
+];
+/// What is asked of the registers refused by 37.
+const MIXED_REGIONS: [&str; 9] = [
+    "the first of three or more members alone apart",
+    "the last of three or more members alone apart",
+    "a middle one of three or more members alone apart",
+    "a chain of two",
+    "regions 0 and 4",
+    "the first chain of two or more alone",
+    "the last chain of two or more alone",
+    "two chains or more",
+    "its last chain's last member alone apart",
+];
+/// What is asked of the masks of intervals that are accepted.
+const MASKS: [&str; 10] = [
+    "mask 0",
+    "mask 31",
+    "mask of one region",
+    "mask of all regions but one",
+    "another mask",
+    "the bit of a region without units set",
+    "regions with units automatic, others manual",
+    "regions with units manual, others automatic",
+    "the bits of some regions with units flipped, those of others not",
+    "the bits of regions without units alone flipped",
+];
+/// What is asked of the headers refused by 9.
+const HEADERS: [&str; 8] = [
+    "by the mask alone",
+    "by a spare alone",
+    "by both",
+    "mask 32",
+    "mask 255",
+    "mask above 31, no region's bit set",
+    "mask above 31, some regions' bits set",
+    "mask above 31, all regions' bits set",
+];
+/// What is asked of a point in an accepted interval, of each class.
+const REGIONAL: [&str; 8] = [
+    "declared, its bit set, another's clear",
+    "declared, its bit set, that of a region with units clear",
+    "declared, its bit set, that of region 0 clear",
+    "2 for 3, its bit clear, another's set",
+    "2 for 3, its bit clear, that of a region with units set",
+    "2 for 3, its bit clear, that of region 0 set",
+    "3, its bit set, that of a region with units clear",
+    "waits at its length, its bit clear, that of a region with units set",
+];
+/// The same of units and of aggregates, in each region.
+const IN_EACH_REGION: [&str; 4] = [
+    REGIONAL[0],
+    REGIONAL[3],
+    "3, its bit set, another's clear",
+    "waits at its length beside one that the interval declares",
+];
 /// Seeds of the random days.
 const DAY_SEEDS: std::ops::RangeInclusive<u64> = 1..=2_000;
 /// Errors at the thresholds of an interval and beside them.
@@ -397,6 +474,222 @@ fn chains_of(plant: &Plant) -> Vec<&[u8]> {
     (0..plant.aggregates()).map(|aggregate| plant.members(aggregate)).collect()
 }
 
+/// The bits of the regions that have units.
+fn occupied(plant: &Plant) -> u8 {
+    (0..plant.units()).fold(0, |mask, unit| mask | 1 << plant.region(unit))
+}
+
+/// Counts the regions of an accepted register. `earlier`: the plant before it.
+fn count_regions(counts: &mut Counts, earlier: Option<&Plant>, plant: &Plant) {
+    let mut add = |reached: bool, what: &str| {
+        if reached {
+            counts.add(format!("load accepted, {what}"));
+        }
+    };
+    let several = |least: usize| {
+        let chains = (0..plant.aggregates()).filter(|&aggregate| plant.members(aggregate).len() >= least);
+        chains.map(|aggregate| plant.region(plant.units() + aggregate)).collect::<BTreeSet<u8>>().len() > 1
+    };
+    let occupied = occupied(plant);
+    let regions = occupied.count_ones();
+    add(true, &format!("units in {regions} region{}", if regions == 1 { "" } else { "s" }));
+    add(occupied == 1, "all units in region 0");
+    add(several(1), "chains in two regions or more");
+    add(several(2), "chains in two regions or more, each of two members or more");
+    let kinds = |plant: &Plant| -> Vec<Kind> { (0..plant.units()).map(|unit| plant.kind(unit)).collect() };
+    let regions = |plant: &Plant| -> Vec<u8> { (0..plant.units()).map(|unit| plant.region(unit)).collect() };
+    let moved = |earlier: &Plant| kinds(earlier) == kinds(plant) && regions(earlier) != regions(plant);
+    add(earlier.is_some_and(moved), "the units of before, in other regions");
+}
+
+/// The kind, next and region of each unit, and the heads, of a register whose header is sound.
+fn records(register: &[u8]) -> (&[[u8; 4]], &[[u8; 4]]) {
+    register[16..].as_chunks::<4>().0.split_at(usize::from(register[0]))
+}
+
+/// Counts where the regions above 4 stand in a register refused by 4, if it is for them alone.
+fn count_no_regions(counts: &mut Counts, register: &[u8]) {
+    let (units, heads) = records(register);
+    let places: Vec<usize> = (0..units.len()).filter(|&unit| units[unit][2] >= REGIONS).collect();
+    let mut other = register.to_vec();
+    places.iter().for_each(|&unit| other[18 + 4 * unit] = 0);
+    if Plant::load(&other).err() == Some(Refusal::KindRegionOrSpare) {
+        return;
+    }
+    let mut add = |what: &str| counts.add(format!("load refused 4 by a region alone, {what}"));
+    for unit in places {
+        add(match units[unit][2] {
+            REGIONS => "region 5",
+            255 => "region 255",
+            _ => "another region",
+        });
+        if unit == 0 {
+            add("in the first unit");
+        } else if unit + 1 == units.len() {
+            add("in the last of two units or more");
+        }
+        add(if heads.is_empty() { "in a register without aggregates" } else { "in a register with aggregates" });
+    }
+}
+
+/// Counts the chains across regions in a register whose chains end: one refused by 7, 30 or 37.
+fn count_across(counts: &mut Counts, register: &[u8], refusal: Refusal) {
+    let (units, heads) = records(register);
+    let chains: Vec<Vec<u8>> = heads
+        .iter()
+        .map(|head| {
+            let mut regions = Vec::new();
+            let mut next = head[0];
+            while next != 0 {
+                let [_, following, region, _] = units[usize::from(next) - 1];
+                regions.push(region);
+                next = following;
+            }
+            regions
+        })
+        .collect();
+    let across: Vec<usize> =
+        (0..chains.len()).filter(|&chain| chains[chain].iter().any(|&region| region != chains[chain][0])).collect();
+    if across.is_empty() {
+        return;
+    }
+    let mut add = |reached: bool, what: &str| {
+        if reached {
+            counts.add(format!("load {refusal}, {what}"));
+        }
+    };
+    add(true, "a chain across regions");
+    // The place of the one member that is apart from all others, of three or more.
+    let apart = |regions: &[u8]| {
+        let alone = |&place: &usize| {
+            let others: Vec<u8> = [&regions[..place], &regions[place + 1..]].concat();
+            others.iter().all(|&region| region == others[0] && region != regions[place])
+        };
+        (0..regions.len()).find(alone).filter(|_| regions.len() >= 3)
+    };
+    for &chain in &across {
+        let regions = &chains[chain];
+        let last = regions.len() - 1;
+        match apart(regions) {
+            Some(0) => add(true, "the first of three or more members alone apart"),
+            Some(place) if place == last => {
+                add(true, "the last of three or more members alone apart");
+                add(across == [chains.len() - 1], "its last chain's last member alone apart");
+            }
+            Some(_) => add(true, "a middle one of three or more members alone apart"),
+            None => {}
+        }
+        add(last == 1, "a chain of two");
+        add(regions.contains(&0) && regions.contains(&4), "regions 0 and 4");
+    }
+    add(chains.len() > 1 && across == [0], "the first chain of two or more alone");
+    add(chains.len() > 1 && across == [chains.len() - 1], "the last chain of two or more alone");
+    add(across.len() > 1, "two chains or more");
+}
+
+/// Counts the mask of an accepted interval. `earlier`: the mask of the one before, since the load.
+fn count_mask(counts: &mut Counts, earlier: Option<u8>, mask: u8, occupied: u8) {
+    let mut add = |reached: bool, what: &str| {
+        if reached {
+            counts.add(format!("interval accepted, {what}"));
+        }
+    };
+    let empty = HIGHEST_MASK & !occupied;
+    add(
+        true,
+        match (mask, mask.count_ones()) {
+            (0, _) => "mask 0",
+            (HIGHEST_MASK, _) => "mask 31",
+            (_, 1) => "mask of one region",
+            (_, 4) => "mask of all regions but one",
+            _ => "another mask",
+        },
+    );
+    add(mask & empty != 0, "the bit of a region without units set");
+    add(empty != 0 && mask == occupied, "regions with units automatic, others manual");
+    add(empty != 0 && mask == empty, "regions with units manual, others automatic");
+    if let Some(earlier) = earlier {
+        let flipped = mask ^ earlier;
+        let some = flipped & occupied != 0 && occupied & !flipped != 0;
+        add(some, "the bits of some regions with units flipped, those of others not");
+        add(flipped != 0 && flipped & occupied == 0, "the bits of regions without units alone flipped");
+    }
+}
+
+/// Counts a header that is refused with 9.
+fn count_header(counts: &mut Counts, buffer: &[u8]) {
+    let mut add = |what: &str| counts.add(format!("interval refused 9, {what}"));
+    let mask = buffer[4];
+    add(match (mask > HIGHEST_MASK, buffer[5..HEADER] == [0; 3]) {
+        (true, true) => "by the mask alone",
+        (true, false) => "by both",
+        _ => "by a spare alone",
+    });
+    if mask > HIGHEST_MASK {
+        match mask {
+            32 => add("mask 32"),
+            255 => add("mask 255"),
+            _ => {}
+        }
+        add(match mask & HIGHEST_MASK {
+            0 => "mask above 31, no region's bit set",
+            HIGHEST_MASK => "mask above 31, all regions' bits set",
+            _ => "mask above 31, some regions' bits set",
+        });
+    }
+}
+
+/// Counts what an accepted interval's mask makes of its points.
+fn count_regional(
+    counts: &mut Counts,
+    plant: &Plant,
+    class: &[&str],
+    mask: u8,
+    before: &[Look],
+    report: &[[u8; conformance::RECORD]],
+) {
+    let occupied = occupied(plant);
+    let records: Vec<Record> = report.iter().map(Record::of).collect();
+    let declared = |point: usize| records[point].status == NON_CONFORMING && before[point].status != NON_CONFORMING;
+    let any_declared = (0..records.len()).any(declared);
+    for (point, record) in records.iter().enumerate() {
+        let region = plant.region(point);
+        let own = 1u8 << region;
+        let automatic = mask & own != 0;
+        // Regions in the other mode.
+        let others = if automatic { HIGHEST_MASK & !mask } else { mask };
+        let reaches = |least: u8, most: u8| record.small >= least || record.large >= most;
+        let pending = reaches(plant.small().pending, plant.large().pending);
+        let mut met = BTreeSet::new();
+        let mut meet = |reached: bool, what: &'static str| {
+            if reached {
+                met.insert(what);
+            }
+        };
+        if declared(point) {
+            meet(others != 0, REGIONAL[0]);
+            meet(others & occupied != 0, REGIONAL[1]);
+            meet(others & 1 != 0, REGIONAL[2]);
+        } else if record.status == NOT_RESPONDING && pending {
+            meet(others != 0, REGIONAL[3]);
+            meet(others & occupied != 0, REGIONAL[4]);
+            meet(others & 1 != 0, REGIONAL[5]);
+            let marked = [Mark::Small as u8, Mark::Large as u8].contains(&record.mark);
+            let ripe = marked && reaches(plant.small().declaration, plant.large().declaration);
+            meet(ripe && others & occupied != 0, REGIONAL[7]);
+            meet(ripe && any_declared, IN_EACH_REGION[3]);
+        } else if record.status == PENDING {
+            meet(others & occupied != 0, REGIONAL[6]);
+            meet(others != 0, IN_EACH_REGION[2]);
+        }
+        let sort = if point < plant.units() { "unit" } else { "aggregate" };
+        for what in met {
+            counts.add(format!("{} {what}", class[point]));
+            counts.add(format!("{sort} in region {region} {what}"));
+        }
+    }
+}
+
 /// What the chains of a plant are.
 fn meet_chains(chains: &[&[u8]]) -> BTreeSet<&'static str> {
     let mut met = BTreeSet::new();
@@ -474,7 +767,8 @@ fn meet_refused_load(
     register: &[u8],
     refusal: Refusal,
 ) -> BTreeSet<&'static str> {
-    let walked = matches!(refusal, Refusal::MetTwice | Refusal::Unmet | Refusal::SemiScheduledMember);
+    let walked =
+        matches!(refusal, Refusal::MetTwice | Refusal::Unmet | Refusal::SemiScheduledMember | Refusal::MixedRegions);
     let units = monitor.plant().map(|plant| plant.units() as u8);
     let as_many = last_number.is_some() && register.first().copied() == units;
     let reached = [chains.contains(OTHER_CHAINS), walked && as_many];
@@ -488,7 +782,7 @@ fn count_under(counts: &mut Counts, chains: &BTreeSet<&str>, call: &str) {
 
 /// Counts where semi-scheduled units stand in the chains of a register whose chains end: one refused by 7 or 30.
 fn count_chained(counts: &mut Counts, register: &[u8], refusal: Refusal) {
-    let (units, heads) = register[16..].as_chunks::<4>().0.split_at(usize::from(register[0]));
+    let (units, heads) = records(register);
     let mut chains = Vec::new();
     for (chain, head) in heads.iter().enumerate() {
         let (mut next, mut first) = (head[0], true);
@@ -1613,6 +1907,7 @@ fn main() -> ExitCode {
         let mut class = Vec::new();
         let mut report = [0; MAX_REPORT];
         let mut last_number = None;
+        let mut last_mask = None;
         let mut kept = Vec::new();
         let mut stories: Vec<Story> = Vec::new();
         let mut asking = Asking::default();
@@ -1634,8 +1929,12 @@ fn main() -> ExitCode {
                             });
                             count_under(&mut counts, &chains, "load");
                             asking = Asking::after_load(&before);
+                            if let Some(plant) = monitor.plant() {
+                                count_regions(&mut counts, before.plant(), plant);
+                            }
                             class = monitor.plant().map_or(Vec::new(), classes);
                             last_number = None;
+                            last_mask = None;
                             kept = vec![None; class.len()];
                             stories = stories_after_load(&stories, class.len());
                             if class.contains(&SEMI_SCHEDULED) {
@@ -1644,7 +1943,10 @@ fn main() -> ExitCode {
                         }
                         Err(refusal @ (Refusal::Unmet | Refusal::SemiScheduledMember)) => {
                             count_chained(&mut counts, register, refusal);
+                            count_across(&mut counts, register, refusal);
                         }
+                        Err(Refusal::MixedRegions) => count_across(&mut counts, register, Refusal::MixedRegions),
+                        Err(Refusal::KindRegionOrSpare) => count_no_regions(&mut counts, register),
                         Err(_) => {}
                     }
                     if let Err(refusal) = answer {
@@ -1661,6 +1963,9 @@ fn main() -> ExitCode {
                     let answer = monitor.interval(buffer, report);
                     counts.answer("interval", &answer);
                     if let Err(refusal) = answer {
+                        if refusal == Refusal::Header {
+                            count_header(&mut counts, buffer);
+                        }
                         asking.since.refused_interval = true;
                         asking.since.refused_lines |= matches!(refusal, Refusal::Header | Refusal::NotRising);
                         continue;
@@ -1676,6 +1981,10 @@ fn main() -> ExitCode {
                     last_number = Some(number);
                     count_under(&mut counts, &chains, "interval");
                     let Some(plant) = monitor.plant() else { continue };
+                    let mask = buffer[4];
+                    count_mask(&mut counts, last_mask, mask, occupied(plant));
+                    count_regional(&mut counts, plant, &class, mask, &before, report.as_chunks().0);
+                    last_mask = Some(mask);
                     let lines: &[[u8; LINE]] = buffer[HEADER..].as_chunks().0;
                     let read = |unit: usize| Line::read(&lines[unit], plant.kind(unit), is_member(plant, unit));
                     for aggregate in 0..plant.aggregates() {
@@ -1689,7 +1998,8 @@ fn main() -> ExitCode {
                     for (point, record) in report.as_chunks::<16>().0.iter().enumerate() {
                         let class = class[point];
                         let record = Record::of(record);
-                        stories[point].marks.push(Marked { number, automatic: buffer[4] == 1, mark: record.mark });
+                        let automatic = mask >> plant.region(point) & 1 == 1;
+                        stories[point].marks.push(Marked { number, automatic, mark: record.mark });
                         counts.add(format!("{class} mark {}", MARKS[usize::from(record.mark)]));
                         counts.add(format!("{class} status {}", STATUSES[usize::from(record.status)]));
                         let size = 100 * u64::from(record.error.unsigned_abs());
@@ -1819,7 +2129,7 @@ fn main() -> ExitCode {
 
     let mut wanted: Vec<String> = Vec::new();
     for (call, refusals) in [
-        ("load", &[1, 2, 3, 4, 5, 6, 7, 30][..]),
+        ("load", &[1, 2, 3, 4, 5, 6, 7, 30, 37][..]),
         ("interval", &[8, 9, 20, 21]),
         ("declare", &[10, 11, 20, 22]),
         ("reinstate", &[10, 20, 23]),
@@ -1835,7 +2145,19 @@ fn main() -> ExitCode {
     for place in ["alone", "first", "between", "last", "not in the first chain"] {
         wanted.push(format!("load refused 30, semi-scheduled member {place}"));
     }
+    wanted.extend(REGISTERS.iter().map(|what| format!("load accepted, {what}")));
+    wanted.extend(NO_REGIONS.iter().map(|what| format!("load refused 4 by a region alone, {what}")));
+    wanted.extend(MIXED_REGIONS.iter().map(|what| format!("load refused 37, {what}")));
+    wanted.extend([7, 30].map(|number| format!("load refused {number}, a chain across regions")));
+    wanted.extend(MASKS.iter().map(|what| format!("interval accepted, {what}")));
+    wanted.extend(HEADERS.iter().map(|what| format!("interval refused 9, {what}")));
+    for sort in ["unit", "aggregate"] {
+        for region in 0..REGIONS {
+            wanted.extend(IN_EACH_REGION.iter().map(|what| format!("{sort} in region {region} {what}")));
+        }
+    }
     for class in ["loner", SEMI_SCHEDULED, "member", "aggregate", "mixed"] {
+        wanted.extend(REGIONAL.iter().map(|what| format!("{class} {what}")));
         let marks = MARKS.iter().filter(|&&mark| class != "loner" || mark != "OFF");
         wanted.extend(marks.map(|mark| format!("{class} mark {mark}")));
         wanted.extend(STATUSES.iter().map(|status| format!("{class} status {status}")));
