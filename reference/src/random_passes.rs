@@ -8,6 +8,7 @@ use crate::marks::Triggers;
 use crate::passes::{read_sample, Case, BLOCK, BLOCKS, KEPT, SAMPLE};
 use crate::random_calls::{float_bits, Draft, Random, UNREADABLE_POWERS, UNREADABLE_RATES};
 use crate::random_chains::{deal, deck, nexts, Order};
+use crate::register::REGIONS;
 
 const LIMIT: i64 = 2_000_000;
 
@@ -47,6 +48,7 @@ struct Wish {
 /// A register before it becomes bytes; units from 0.
 struct Plan {
     kinds: Vec<Kind>,
+    regions: Vec<u8>,
     chains: Vec<Vec<usize>>,
 }
 
@@ -147,7 +149,11 @@ impl Author {
                 kinds[unit] = Kind::SemiScheduled;
             }
         }
-        Plan { kinds, chains }
+        let mut regions: Vec<u8> = (0..n).map(|_| random.below(usize::from(REGIONS)) as u8).collect();
+        for chain in &chains {
+            chain.iter().for_each(|&unit| regions[unit] = regions[chain[0]]);
+        }
+        Plan { kinds, regions, chains }
     }
 
     fn register(&mut self, plan: &Plan) -> Vec<u8> {
@@ -158,19 +164,20 @@ impl Author {
         }
         bytes.extend([0; 8]);
         let nexts = nexts(plan.kinds.len(), &plan.chains);
-        bytes.extend(plan.kinds.iter().zip(nexts).flat_map(|(&kind, next)| [kind as u8, next, 0, 0]));
+        let units = plan.kinds.iter().zip(nexts).zip(&plan.regions);
+        bytes.extend(units.flat_map(|((&kind, next), &region)| [kind as u8, next, region, 0]));
         bytes.extend(plan.chains.iter().flat_map(|chain| [chain[0] as u8 + 1, 0, 0, 0]));
         bytes
     }
 
-    /// Damage for each of the refusals 1 to 7 and 30.
+    /// Damage for each of the refusals 1 to 7, 30 and 37.
     fn damage_register(&mut self, bytes: &mut Vec<u8>, plan: &Plan) {
         let random = &mut self.random;
         let n = plan.kinds.len();
         let unit = 16 + 4 * random.below(n);
         let heads = 16 + 4 * n;
         let Some(chain) = plan.chains.first() else { return bytes.truncate(random.below(16)) };
-        match random.below(9) {
+        match random.below(10) {
             0 => bytes.truncate(random.below(16)),
             1 => bytes.truncate(bytes.len() - random.pick(&[1, 4])),
             2 => bytes[random.below(2)] = random.pick(&[65, 128, 255]),
@@ -184,6 +191,7 @@ impl Author {
                 bytes[1] = 0;
                 bytes[unit + 1] = 1;
             }
+            8 => bytes[18 + 4 * random.pick(chain)] = (plan.regions[chain[0]] + 1) % REGIONS,
             _ => bytes[16 + 4 * random.pick(chain)] = Kind::SemiScheduled as u8,
         }
     }
@@ -514,7 +522,7 @@ mod tests {
     #[test]
     fn registers_are_mixed() {
         let mut accepted = 0;
-        let mut refused = [0; 31];
+        let mut refused = [0; 38];
         for seed in 1..=8 {
             for case in cases(&blocks(seed)) {
                 match Plant::load(case.register) {
@@ -524,7 +532,7 @@ mod tests {
             }
         }
         assert!(accepted > 10 * refused.iter().sum::<i32>());
-        for number in [1, 2, 3, 4, 5, 6, 7, 30] {
+        for number in [1, 2, 3, 4, 5, 6, 7, 30, 37] {
             assert!(refused[number] > 0, "{number}");
         }
     }
