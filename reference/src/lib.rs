@@ -13,8 +13,8 @@
 //! - [`ledger`]: its days over the year, the declaration by three instances, lists of its calls; refusals 33 to 35
 //!
 //! Around them: [`frames`] reads lists of calls from bytes, for [`replay`] and [`ledger`]; [`program`] and [`replay`] print what
-//! the calls answer, [`passes`] what the pass over an aggregate's members returns; [`random_calls`], [`random_passes`],
-//! [`random_days`], [`random_ledgers`] and [`bench_input`] make input, [`folders`] writes it for many seeds.
+//! the calls answer, [`passes`] what the pass over an aggregate's members returns; [`random_calls`], [`random_pairs`],
+//! [`random_passes`], [`random_days`], [`random_ledgers`] and [`bench_input`] make input, [`folders`] writes it for many seeds.
 
 pub mod bench_input;
 pub mod folders;
@@ -29,6 +29,7 @@ pub mod random_calls;
 mod random_chains;
 pub mod random_days;
 pub mod random_ledgers;
+pub mod random_pairs;
 pub mod random_passes;
 pub mod refusal;
 pub mod register;

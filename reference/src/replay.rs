@@ -142,6 +142,18 @@ impl Script {
         self.bytes.extend(payload);
     }
 
+    pub fn add(&mut self, call: Call) {
+        match call {
+            Call::Load(register) => self.load(register),
+            Call::Interval { report, buffer } => self.interval(report as u32, buffer),
+            Call::Declare { point, level } => self.declare(point, level),
+            Call::Reinstate { point } => self.reinstate(point),
+            Call::Look { point } => self.look(point),
+            Call::Reason { point } => self.reason(point),
+            Call::Target { point } => self.target(point),
+        }
+    }
+
     pub fn load(&mut self, register: &[u8]) {
         self.call(LOAD, register);
     }

@@ -1,5 +1,6 @@
-//! `statistics FIRST LAST`: what the random lists of these seeds reach, what the random passes of seeds 1 to 12 reach, what the
-//! random days of seeds 1 to 2000 reach, and what the random ledgers of seeds 1 to 1000 reach; fails when something stays rare.
+//! `statistics FIRST LAST`: what the random lists of these seeds reach, what the random pairs of seeds 1 to 1000 reach, what the
+//! random passes of seeds 1 to 12 reach, what the random days of seeds 1 to 2000 reach, and what the random ledgers of seeds 1
+//! to 1000 reach; fails when something stays rare.
 
 use conformance::frames::{HEAD, MAX_PAYLOAD};
 use conformance::ledger::{self, Conduct, Date, Ledger};
@@ -7,6 +8,7 @@ use conformance::line::{Kind, Line, Quality, LINE};
 use conformance::marks::{assess_aggregate, Member, Pass};
 use conformance::monitor::{Record, HEADER, HIGHEST_MASK, NON_CONFORMING, NOT_RESPONDING, PENDING};
 use conformance::random_ledgers::{Sort, SORTS};
+use conformance::random_pairs::{self, Pair};
 use conformance::register::REGIONS;
 use conformance::replay::{self, Call, Calls, MAX_REPORT};
 use conformance::response::{self, Assessment, Flag};
@@ -258,6 +260,20 @@ const IN_EACH_REGION: [&str; 4] = [
     "3, its bit set, another's clear",
     "waits at its length beside one that the interval declares",
 ];
+/// What is asked of the intervals of pairs of lists that are alike for a group: of those accepted, or refused with 9.
+const PAIRS: [&str; 9] = [
+    "accepted, masks equal",
+    "accepted, masks differ, the group's bit clear",
+    "accepted, masks differ, the group's bit set",
+    "accepted, masks differ in one bit",
+    "accepted, masks differ in all other bits",
+    "accepted, masks differ in the bit of a region with units",
+    "accepted, masks differ in the bit of region 0",
+    "accepted, a cap flag outside the group differs",
+    "refused 9, masks above 31 that differ in a region's bit",
+];
+/// What is asked of the group's points then, of each class.
+const OF_PAIRS: [&str; 3] = ["declared, masks differ", "3, masks differ", "2 for 3, masks differ"];
 /// Seeds of the random days.
 const DAY_SEEDS: std::ops::RangeInclusive<u64> = 1..=2_000;
 /// Errors at the thresholds of an interval and beside them.
@@ -907,6 +923,92 @@ fn count_random_passes(counts: &mut Counts) {
                 }
             }
         }
+    }
+}
+
+/// Counts what the random pairs reach.
+fn count_random_pairs(counts: &mut Counts) {
+    for seed in random_pairs::SEEDS {
+        let Pair { first, second, points } = random_pairs::pair(seed);
+        let mut others = Calls::new(&second).filter_map(|call| match call {
+            Ok(Call::Interval { buffer, .. }) => Some(buffer),
+            _ => None,
+        });
+        let mut points = points.iter();
+        let mut monitor = Monitor::new();
+        let mut report = [0; MAX_REPORT];
+        let (mut group, mut class) = (Vec::new(), Vec::new());
+        for call in Calls::new(&first) {
+            match call {
+                Ok(Call::Load(register)) => {
+                    let answer = monitor.load(register);
+                    if let (Ok(_), Some(plant)) = (answer, monitor.plant()) {
+                        group = points.next().map_or(Vec::new(), |&point| random_pairs::group(plant, point));
+                        class = classes(plant);
+                    }
+                }
+                Ok(Call::Interval { report: length, buffer }) if !group.is_empty() => {
+                    let Some(other) = others.next() else { continue };
+                    let before: Vec<Look> = group.iter().flat_map(|&point| monitor.look(point)).collect();
+                    let report = &mut report[..length];
+                    let answer = monitor.interval(buffer, report);
+                    let Some(plant) = monitor.plant() else { continue };
+                    count_pair(counts, plant, group[0], answer, [buffer, other]);
+                    if answer.is_err() || buffer[4] == other[4] {
+                        continue;
+                    }
+                    for (&point, before) in group.iter().zip(before) {
+                        let point = point as usize - 1;
+                        let record = Record::of(&report.as_chunks().0[point]);
+                        let pending = record.small >= plant.small().pending || record.large >= plant.large().pending;
+                        let what = match record.status {
+                            NON_CONFORMING if before.status != NON_CONFORMING => OF_PAIRS[0],
+                            PENDING => OF_PAIRS[1],
+                            NOT_RESPONDING if pending => OF_PAIRS[2],
+                            _ => continue,
+                        };
+                        counts.add(format!("pairs: {} {what}", class[point]));
+                    }
+                }
+                Ok(Call::Declare { point, level }) => drop(monitor.declare(point, level)),
+                Ok(Call::Reinstate { point }) => drop(monitor.reinstate(point)),
+                _ => {}
+            }
+        }
+    }
+}
+
+/// Counts an interval of both lists.
+fn count_pair(counts: &mut Counts, plant: &Plant, point: u32, answer: Result<(), Refusal>, buffers: [&[u8]; 2]) {
+    let mut add = |reached: bool, what: &str| {
+        if reached {
+            counts.add(format!("pairs: {what}"));
+        }
+    };
+    let [buffer, other] = buffers;
+    let region = plant.region(point as usize - 1);
+    match answer {
+        Ok(()) => {
+            let flipped = buffer[4] ^ other[4];
+            let automatic = buffer[4] >> region & 1 == 1;
+            add(flipped == 0, PAIRS[0]);
+            add(flipped != 0 && !automatic, PAIRS[1]);
+            add(flipped != 0 && automatic, PAIRS[2]);
+            add(flipped.count_ones() == 1, PAIRS[3]);
+            add(flipped == HIGHEST_MASK & !(1 << region), PAIRS[4]);
+            add(flipped & occupied(plant) != 0, PAIRS[5]);
+            add(flipped & 1 != 0, PAIRS[6]);
+            let group = random_pairs::group(plant, point);
+            let outside = |&unit: &usize| !group.contains(&(unit as u32 + 1));
+            let flag = |unit: usize| HEADER + LINE * unit + 2;
+            let mut units = (0..plant.units()).filter(|&unit| plant.kind(unit) == Kind::SemiScheduled).filter(outside);
+            add(units.any(|unit| buffer[flag(unit)] != other[flag(unit)]), PAIRS[7]);
+        }
+        Err(Refusal::Header) => {
+            let above = buffer[4].min(other[4]) > HIGHEST_MASK;
+            add(above && (buffer[4] ^ other[4]) & HIGHEST_MASK != 0, PAIRS[8]);
+        }
+        Err(_) => {}
     }
 }
 
@@ -2119,6 +2221,7 @@ fn main() -> ExitCode {
             }
         }
     }
+    count_random_pairs(&mut counts);
     count_random_passes(&mut counts);
     count_random_days(&mut counts);
     count_random_ledgers(&mut counts);
@@ -2151,6 +2254,7 @@ fn main() -> ExitCode {
     wanted.extend([7, 30].map(|number| format!("load refused {number}, a chain across regions")));
     wanted.extend(MASKS.iter().map(|what| format!("interval accepted, {what}")));
     wanted.extend(HEADERS.iter().map(|what| format!("interval refused 9, {what}")));
+    wanted.extend(PAIRS.iter().map(|what| format!("pairs: {what}")));
     for sort in ["unit", "aggregate"] {
         for region in 0..REGIONS {
             wanted.extend(IN_EACH_REGION.iter().map(|what| format!("{sort} in region {region} {what}")));
@@ -2158,6 +2262,7 @@ fn main() -> ExitCode {
     }
     for class in ["loner", SEMI_SCHEDULED, "member", "aggregate", "mixed"] {
         wanted.extend(REGIONAL.iter().map(|what| format!("{class} {what}")));
+        wanted.extend(OF_PAIRS.iter().map(|what| format!("pairs: {class} {what}")));
         let marks = MARKS.iter().filter(|&&mark| class != "loner" || mark != "OFF");
         wanted.extend(marks.map(|mark| format!("{class} mark {mark}")));
         wanted.extend(STATUSES.iter().map(|status| format!("{class} status {status}")));
