@@ -897,7 +897,7 @@ impl Author {
         }
     }
 
-    /// The mask of the next interval. Regions without units come and go.
+    /// The mask of the next interval. The bits of regions without units change now and then, whatever the modes of the others.
     fn next_mask(&mut self, occupied: u8) {
         let random = &mut self.random;
         if random.chance(150) {
@@ -907,7 +907,7 @@ impl Author {
             Modes::Manual => self.mask &= !occupied,
             Modes::Automatic => self.mask |= occupied,
             Modes::Together => {
-                // Registers of other regions may have left them apart.
+                // After a load other regions have units, some perhaps with the bit clear.
                 let automatic = (self.mask & occupied != 0) != random.chance(120);
                 self.mask = if automatic { self.mask | occupied } else { self.mask & !occupied };
             }
@@ -1446,9 +1446,10 @@ fn chain_semi_scheduled(random: &mut Random, bytes: &mut [u8], sketch: &Sketch) 
 /// Brings a chain across regions: some members move to another one, or a unit that stood in no chain goes in front or behind.
 fn mix_regions(random: &mut Random, bytes: &mut [u8], sketch: &Sketch) {
     let mut mixable = sketch.mixable();
-    // Chains with a member between the ends first.
-    if random.chance(700) {
-        mixable.sort_by_key(|&aggregate| sketch.groups[aggregate].units.len() >= 3);
+    // Chains with a member between the ends, if there are any.
+    let long = |aggregate: &usize| sketch.groups[*aggregate].units.len() >= 3;
+    if mixable.iter().any(long) && random.chance(700) {
+        mixable.retain(long);
     }
     let (Some(&first), Some(&last)) = (mixable.first(), mixable.last()) else { return };
     let (next, region) = (|unit: usize| 17 + 4 * unit, |unit: usize| 18 + 4 * unit);

@@ -465,7 +465,7 @@ mod tests {
         for (own, other) in [(0, 1), (0, 4), (4, 0), (2, 3)] {
             let all = with_regions(good.clone(), &[1, 2, 3, 4, 5, 6, 7, 8].map(|unit| (unit, own)));
             assert_eq!(Plant::load(&all).unwrap().1, 6);
-            // Each place of both chains, one and two at a time; a chain that moves whole is in one region again.
+            // Each place of both chains, one and two at a time; with all its members moved a chain is in one region again.
             for unit in [1, 2, 3, 5, 6] {
                 assert_eq!(refused(&with_regions(all.clone(), &[(unit, other)])), 37);
                 for second in [1, 2, 3, 5, 6] {
@@ -478,7 +478,7 @@ mod tests {
                 }
             }
             assert!(Plant::load(&with_regions(all.clone(), &[(1, other), (3, other), (6, other)])).is_ok());
-            // A chain of one, and units in no chain, go where they will.
+            // A chain of one, and units in no chain, may be in any region.
             assert!(Plant::load(&with_regions(all, &[(4, other), (7, other), (8, other)])).is_ok());
         }
         // The last member of the longest chain, and that of the last chain of the largest register.

@@ -79,17 +79,17 @@ impl One {
         Self(monitor)
     }
 
-    fn interval(&mut self, number: u32, mode: u8, line: [u8; 40]) -> Record {
+    fn interval(&mut self, number: u32, mask: u8, line: [u8; 40]) -> Record {
         let mut report = [0; 16];
-        self.0.interval(&buffer(number, mode, &[line]), &mut report).unwrap();
+        self.0.interval(&buffer(number, mask, &[line]), &mut report).unwrap();
         Record::of(&report)
     }
 
     /// Intervals with these marks, numbered from the first on.
-    fn marks(&mut self, first: u32, mode: u8, marks: &str) {
+    fn marks(&mut self, first: u32, mask: u8, marks: &str) {
         for (number, letter) in (first..=u32::MAX).zip(marks.chars()) {
             let (mark, line) = marked(letter);
-            assert_eq!(self.interval(number, mode, line).mark, mark as u8, "interval {number}");
+            assert_eq!(self.interval(number, mask, line).mark, mark as u8, "interval {number}");
         }
     }
 
@@ -743,14 +743,14 @@ fn operator_levels() {
             (_, true) => member(mw, 2),
             (_, false) => line(mw),
         };
-        // How many intervals away, in which mode, and the status then.
-        for (away, mode, status) in [(0, 1, 0), (1, 1, 1), (2, 1, 2), (3, 0, 2), (9, 0, 2), (3, 1, 3), (4, 1, 4)] {
+        // How many intervals away, with which mask, and the status then.
+        for (away, mask, status) in [(0, 1, 0), (1, 1, 1), (2, 1, 2), (3, 0, 2), (9, 0, 2), (3, 1, 3), (4, 1, 4)] {
             let mut monitor = Monitor::new();
             monitor.load(&register([2, 3, 4, 2, 3, 4], &[(kind, 0)], heads)).unwrap();
             let mut report = vec![0; 16 + 16 * heads.len()];
-            monitor.interval(&buffer(1, mode, &[own(100.0)]), &mut report).unwrap();
+            monitor.interval(&buffer(1, mask, &[own(100.0)]), &mut report).unwrap();
             for number in 2..2 + away {
-                monitor.interval(&buffer(number, mode, &[own(107.0)]), &mut report).unwrap();
+                monitor.interval(&buffer(number, mask, &[own(107.0)]), &mut report).unwrap();
             }
             assert_eq!(monitor.look(point).unwrap().status, status);
             for (level, floored_kinds, signed_points) in OPERATOR_LEVELS {
@@ -812,13 +812,13 @@ fn a_refused_level_leaves_the_point_to_an_interval() {
     assert_eq!(one.0.look(1), Ok(Look { status: 4, small: 0, large: 0, level: 0 }));
 }
 
-/// Manual mode and automatic mode.
+/// Masks with region 0 in manual mode and in automatic mode.
 const MANUAL: u8 = 0;
 const AUTOMATIC: u8 = 1;
 
 #[test]
 fn reasons_of_runs() {
-    // Stretches of marks: the number of the first, the mode, the letters. The first interval is BLANK, nothing being kept.
+    // Stretches of marks: the number of the first, the mask, the letters. The first interval is BLANK, nothing being kept.
     type Case<'a> = ([u8; 6], &'a [(u32, u8, &'a str)], Result<Reason, u32>);
     let cases: [Case; 27] = [
         // Declaration at 5 marks of the small run, 4 of the large one.
@@ -858,9 +858,9 @@ fn reasons_of_runs() {
     ];
     for (lengths, stretches, reason) in cases {
         let mut one = One::new(lengths);
-        for &(first, mode, marks) in stretches {
+        for &(first, mask, marks) in stretches {
             assert_eq!(one.reason(), Err(36));
-            one.marks(first, mode, marks);
+            one.marks(first, mask, marks);
         }
         assert_eq!(one.reason(), reason, "{lengths:?} {stretches:?}");
     }
@@ -913,13 +913,13 @@ fn marks_after_a_declaration_change_no_reason() {
         one.marks(11, AUTOMATIC, declaring);
         assert_eq!(one.reason(), reason);
         // Each of them, and both runs at their lengths once more, in either mode.
-        for (first, mode, marks) in [
+        for (first, mask, marks) in [
             (20, AUTOMATIC, "BLLLLLLLL"),
             (30, MANUAL, "BSSSSSSSS"),
             (40, AUTOMATIC, "BCLLLLLL"),
             (50, AUTOMATIC, "BSSSSSDBC"),
         ] {
-            one.marks(first, mode, marks);
+            one.marks(first, mask, marks);
             assert_eq!(one.reason(), reason);
             assert_eq!(one.0.look(1).map(|look| (look.status, look.small, look.large)), Ok((4, 0, 0)));
         }

@@ -21,7 +21,8 @@ fn chains(register: &[u8]) -> Vec<Vec<u8>> {
     (0..aggregates).map(chain).collect()
 }
 
-/// Each stretch is a chain, they follow each other from 0 on, and together they are all members.
+/// Each stretch is a chain, they follow each other from 0 on, and together they are all members. Each unit is in its own region,
+/// each aggregate in that of all its members.
 fn check(register: &[u8], plant: &Plant, visits: u32) {
     let chains = chains(register);
     assert_eq!(plant.aggregates(), chains.len());
@@ -37,6 +38,13 @@ fn check(register: &[u8], plant: &Plant, visits: u32) {
     assert_eq!((plant.all_members().len(), visits as usize), (end, end));
     let rest: Vec<u8> = (0..register[0]).filter(|unit| !plant.all_members().contains(unit)).collect();
     assert_eq!(plant.loners(), rest);
+    let region = |unit: u8| register[18 + 4 * usize::from(unit)];
+    for unit in 0..register[0] {
+        assert_eq!(plant.region(usize::from(unit)), region(unit));
+    }
+    for (aggregate, chain) in chains.iter().enumerate() {
+        assert!(chain.iter().all(|&unit| plant.region(plant.units() + aggregate) == region(unit)));
+    }
 }
 
 fn register(units: &[(u8, u8)], heads: &[u8]) -> Vec<u8> {
