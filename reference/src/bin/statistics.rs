@@ -1,6 +1,6 @@
-//! `statistics FIRST LAST`: what the random lists of these seeds reach, what the random pairs of seeds 1 to 1000 reach, what the
-//! random passes of seeds 1 to 12 reach, what the random days of seeds 1 to 2000 reach, and what the random ledgers of seeds 1
-//! to 1000 reach; fails when something stays rare.
+//! `statistics FIRST LAST`: what the random lists of these seeds reach, what the random pairs of seeds 1 to 1000 reach, what
+//! the random passes of seeds 1 to 12 reach, what the random days of seeds 1 to 2000 reach, and what the random ledgers of
+//! seeds 1 to 1000 reach; fails when something stays rare.
 
 use conformance::frames::{HEAD, MAX_PAYLOAD};
 use conformance::ledger::{self, Conduct, Date, Ledger};
