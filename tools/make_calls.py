@@ -369,9 +369,9 @@ def refusals_with_register():
         # 8: either length, one byte off; an empty buffer and an empty report.
         refused("interval", 8, given(good[:-1], 48), given(good + b"\0", 48), given(good, 47), given(good, 49),
                 given(b"", 48), given(good, 0), given(b"", 0), given(good[:48], 48), given(good, 4_096)),
-        # 8 goes before 9: the report one byte short, and mode 32.
+        # 8 goes before 9: the report one byte short, and mask 32.
         refused("interval", 8, given(headed(7, 32, 0, 0, 0), 47)),
-        # 9: mode 32 and 255; each spare.
+        # 9: mask 32 and 255; each spare.
         refused("interval", 9, *[given(headed(7, *head), 48) for head in
                                  [(32, 0, 0, 0), (255, 0, 0, 0), (1, 1, 0, 0), (0, 0, 1, 0), (1, 0, 0, 128)]]),
         # None of them was accepted, so the first interval may still have any number, 7 too.
@@ -3325,20 +3325,20 @@ def over_11(status, small, large):
 
 
 def regions_modes():
-    """Unit 1 in region 0 and unit 2 in region 4, in no chain. Each mode up to 31 is accepted, and each above it gives 9."""
+    """Unit 1 in region 0 and unit 2 in region 4, in no chain. Each mask up to 31 is accepted, and each above it gives 9."""
     registered = register(LENGTHS, [(GENERATING, 0, 0), (GENERATING, 0, 4)])
     none, without_units = (ON, "0 1 0 0 0 0 0"), regions(1, 2, 3)
 
     def nine(number):
         """33, 48 and 63 have the bit of region 0, that of region 4 and both. Then each spare beside 31. Both units are LARGE."""
         good = interval(number, 31, FAR, FAR)
-        modes = 32, 33, 48, 63, 64, 128, 159, 255
-        return refused("interval", 9, *[given(interval(number, mode, FAR, FAR), 32) for mode in modes],
+        masks = 32, 33, 48, 63, 64, 128, 159, 255
+        return refused("interval", 9, *[given(interval(number, mask, FAR, FAR), 32) for mask in masks],
                        *[given(good[:place] + b"\1" + good[place + 1:], 32) for place in (5, 6, 7)])
 
     steps = [
         # 20 goes before 9.
-        refused("interval", 20, *[given(interval(7, mode, FAR, FAR), 32) for mode in (31, 32, 255)]),
+        refused("interval", 20, *[given(interval(7, mask, FAR, FAR), 32) for mask in (31, 32, 255)]),
         (load(registered), "load accepted 0"),
         nine(7),
         # 8 goes before 9: the report one byte short; one line too few.
@@ -3355,10 +3355,10 @@ def regions_modes():
         nine(11),
         *looks("2 3 0 0", "2 3 0 0"),
     ]
-    # BLANK leaves the runs, and the status shows the mode. Bit 0 is set in the odd modes, bit 4 in those from 16 on.
-    for mode in range(32):
-        one, two = 3 if mode % 2 else 2, 3 if mode >= 16 else 2
-        steps.append(taken(11 + mode, mode, (BAD_LINE, f"{one} 1 3 0 0 0 0"), (BAD_LINE, f"{two} 1 3 0 0 0 0")))
+    # BLANK leaves the runs, and the status shows the mode. Bit 0 is set in the odd masks, bit 4 in those from 16 on.
+    for mask in range(32):
+        one, two = 3 if mask % 2 else 2, 3 if mask >= 16 else 2
+        steps.append(taken(11 + mask, mask, (BAD_LINE, f"{one} 1 3 0 0 0 0"), (BAD_LINE, f"{two} 1 3 0 0 0 0")))
     declared, on = (OVER, "4 4 0 0 7000 600000 107000"), (ON, "4 2 0 0 0 600000 107000")
     return steps + [
         nine(43),
@@ -3789,7 +3789,7 @@ def regions_plant():
 
 def in_region(region, steps):
     """The same calls with all units in this region. Its bit alone is set for automatic mode, and all others for manual mode."""
-    modes = {AUTOMATIC: regions(region), MANUAL: regions(*{0, 1, 2, 3, 4} - {region})}
+    masks = {AUTOMATIC: regions(region), MANUAL: regions(*{0, 1, 2, 3, 4} - {region})}
 
     def moved(sent):
         out, at = bytearray(sent), 0
@@ -3798,8 +3798,8 @@ def in_region(region, steps):
             if tag == 1:  # at 8 the register, whose first byte is the unit count; units from 24 on
                 for unit in range(out[at + 8]):
                     out[at + 26 + 4 * unit] = region
-            elif tag == 2:  # at 8 the report's length, at 12 the interval's number, at 16 its mode
-                out[at + 16] = modes[out[at + 16]]
+            elif tag == 2:  # at 8 the report's length, at 12 the interval's number, at 16 its mask
+                out[at + 16] = masks[out[at + 16]]
             at += 8 + length
         return bytes(out)
 
@@ -4468,7 +4468,7 @@ def alike_regions(bits, others, above, between):
     6 in no chain, in region 2 as the group is. Small run 2, 3, 5; large run 2, 3, 4.
 
     bits: for the interval of each number the regions other than 2 that are automatic; others: the lines of units 2, 4, 5 and 6,
-    and what is printed of points 2, 4, 5, 6 and 8; above: two modes above 31, without bit 2 and with it; between: operator calls
+    and what is printed of points 2, 4, 5, 6 and 8; above: two masks above 31, without bit 2 and with it; between: operator calls
     outside the group after the interval of that number. Gives the steps as `alike` does.
     """
     units = [(GENERATING, 3, 2), (GENERATING, 0, 0), (LOAD, 0, 2), (LOAD, 0, 4), (BIDIRECTIONAL, 4, 4), (SEMI_SCHEDULED, 0, 2)]
@@ -4497,12 +4497,12 @@ def alike_regions(bits, others, above, between):
             named(reason(point), f"reason {answer}")
 
     def refused_in_both(number, last):
-        """Lines that would be LARGE, and other regions' bits as in interval 7 or a mode above 31."""
+        """Lines that would be LARGE, and other regions' bits as in interval 7 or a mask above 31."""
         def sent(sent_number, mode):
             return buffer_of(sent_number, mode, 150.0, 10.0, others[7][0])
 
         allowed = regions(*bits[7]), regions(2, *bits[7])
-        # The report one record short; a mode above 31, and a spare; the number of the last accepted.
+        # The report one record short; a mask above 31, and a spare; the number of the last accepted.
         for refusal, report, buffers in (
             (8, 112, [sent(number, mode) for mode in (*allowed, *above)]),
             (9, 128, [sent(each, mode) for mode in above for each in (number, last, number + 5)]),

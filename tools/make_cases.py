@@ -462,7 +462,7 @@ def two_regions():
     40 MW throughout. With unit 1 at 111,000 the aggregate has 71,000 against 60,000: both are 11,000 over, LARGE.
     """
     none, on = "0 1 0 0 0 0 0", "0 2 0 0 0 600000 0"
-    # Mode, MW of units 1 and 3; what is printed of points 1 to 4.
+    # Mask, MW of units 1 and 3; what is printed of points 1 to 4.
     steps = [
         (regions(1), 100.0, 100.0, none, none, none, none),
         (regions(1), 111.0, 107.0, "1 5 1 1 11000 600000 0", on, "1 4 1 0 7000 600000 0", "1 5 1 1 11000 600000 0"),
@@ -497,7 +497,7 @@ def refused_8_at_once():
 
 
 def refused_9():
-    """Mode 32 in the second header, and its number not above the first: 9 goes before 21."""
+    """Mask 32 in the second header, and its number not above the first: 9 goes before 21."""
     return ONE_UNIT, [EXAMPLE_BUFFERS[0], interval(10, 32, plain(100.0)), EXAMPLE_BUFFERS[2]], EXAMPLE_LINES[:1] + ["refused 9"]
 
 

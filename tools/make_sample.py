@@ -59,7 +59,7 @@ def solar(mw, cap, quality=GOOD):
 
 NAN = float("nan")
 
-# number, mode, lines of units 1 to 5; then what is printed of points 1 to 6, worked out by hand from the paper: status, mark
+# number, mask, lines of units 1 to 5; then what is printed of points 1 to 6, worked out by hand from the paper: status, mark
 # (0 OFF, 1 BLANK, 2 CLEAR, 3 DOUBT, 4 SMALL, 5 LARGE), small run, large run, error, small trigger, level.
 INTERVALS = [
     # Nothing kept yet.
@@ -146,9 +146,9 @@ program, so points stay declared to the end.
   at 5 and 6 for point 1's line, SMALL from 7, LARGE at 10, declared at 12 at 80,000 - 23,000 - 33,000 = 24,000.
 
 Status and mark of points 1 to 6 at each interval, by hand (marks 0 OFF, 1 BLANK, 2 CLEAR, 3 DOUBT, 4 SMALL, 5 LARGE).
-The mode is 3 where both regions are automatic, 2 where region 1 alone is, and 1 where region 0 alone is.
+The mask is 3 where both regions are automatic, 2 where region 1 alone is, and 1 where region 0 alone is.
 
-| interval | mode | 1 | 2 | 3 | 4 | 5 | 6 |
+| interval | mask | 1 | 2 | 3 | 4 | 5 | 6 |
 |---|---|---|---|---|---|---|---|
 """
 
@@ -157,10 +157,10 @@ def files():
     """name -> bytes."""
     table = ""
     expected = ""
-    for number, mode, *_, printed in INTERVALS:
+    for number, mask, *_, printed in INTERVALS:
         points = printed.split(" | ")
         marked = " | ".join(" ".join(point.split()[:2]) for point in points)
-        table += f"| {number} | {mode} | {marked} |\n"
+        table += f"| {number} | {mask} | {marked} |\n"
         expected += "".join(f"{number} {point} {text}\n" for point, text in enumerate(points, 1))
     return {
         "register.bin": REGISTER,

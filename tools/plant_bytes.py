@@ -6,12 +6,12 @@ import struct
 GENERATING, LOAD, BIDIRECTIONAL, SEMI_SCHEDULED = 1, 2, 3, 4
 # Quality of a line's telemetry.
 GOOD, SUBSTITUTED, BAD = 0, 1, 2
-# Mode of an interval: bit r is set where region r is automatic. These two are for a plant in region 0.
+# Mask of an interval: bit r is set where region r is automatic. These two are for a plant in region 0.
 MANUAL, AUTOMATIC = 0, 1
 
 
 def regions(*automatic):
-    """The mode of an interval in which these regions are automatic and the others manual."""
+    """The mask of an interval in which these regions are automatic and the others manual."""
     return sum(1 << region for region in {*automatic})
 
 
@@ -46,10 +46,10 @@ def line(mw, *, mwb, mwo, fcr=0, fcl=0, bid=(3000, 3000), scada=(3.0, 3.0), qual
     )
 
 
-def interval(number, mode, *lines):
+def interval(number, mask, *lines):
     """An interval buffer, 8 + 40n bytes."""
     return (
         struct.pack("<I", number)  # 0 interval number
-        + bytes([mode, 0, 0, 0])  # 4 mode, a bit for each region; 5-7 zeros
+        + bytes([mask, 0, 0, 0])  # 4 mask, a bit for each region; 5-7 zeros
         + b"".join(lines)
     )

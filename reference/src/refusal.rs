@@ -22,7 +22,7 @@ pub enum Refusal {
     Unmet = 7,
     /// Interval not 8 + 40n bytes, or report not 16(n + m).
     BufferLength = 8,
-    /// Mask of modes above 31, or a nonzero spare in the interval header.
+    /// Mask above 31, or a nonzero spare in the interval header.
     Header = 9,
     /// Point 0 or above n + m; of a target, the point of a unit too.
     Point = 10,
