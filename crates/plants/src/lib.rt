@@ -4,7 +4,7 @@
 
 ghost use Rattle.std.specs.Prelude.{◌≡◌, ◌≤◌, ◌<◌, length, true};
 ghost use Rattle.plants.specs.Plants.{shares_region, regions_shared};
-ghost use Rattle.plants.specs.Rosters.{no_roster, no_stretch, counts_in, kinds_known, is_region, regions_known, places_in};
+ghost use Rattle.plants.specs.Rosters.{no_roster, no_stretch, counts_in, kinds_known, regions_known, places_in};
 ghost use Rattle.plants.specs.Rosters.{stretch_in, stretches_in, stretch_of, held, roster_sound};
 
 use kinds::Kind;
@@ -58,18 +58,12 @@ pub fn known_kinds(kinds: &[Option<Kind>; 64], units: usize) -> bool
     kinds[..units].iter().all(|kind| kind.is_some())
 }
 
-fn is_region(region: u8) -> bool
-    ensures { result ≡ is_region region }
-{
-    region <= 4
-}
-
 // The first regions of a register's units, or of a roster's points.
 pub fn known_regions(regions: &[u8], count: usize) -> bool
     requires { count ≤ length regions.now }
     ensures { result ≡ regions_known regions.now count }
 {
-    regions[..count].iter().all(|region| is_region(*region))
+    regions[..count].iter().all(|region| *region <= 4)
 }
 
 // Every entry of the list is the place of a unit, past the last stretch too.
