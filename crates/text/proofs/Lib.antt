@@ -6,3 +6,4 @@ pub mod Lines
 pub mod Rooms
 pub mod Fields
 pub mod Writers
+pub mod PointLines

@@ -2,7 +2,7 @@
 -- leaves. Assumes nothing.
 use mathlib.Core.Path.{◌≡◌, refl, sym, ◌∙◌}
 use mathlib.Core.List.{List, [], ◌∷◌, ◌++◌}
-use Prim.Native.Nat.{ℕ, ◌+◌, ◌-◌, ◌≤◌}
+use Prim.Native.Nat.{ℕ, ◌+◌, ◌-◌, ◌/◌, ◌%◌, ◌^◌, ◌≤◌, ◌<◌}
 use native.Mathlib.Nat.{add-zero}
 use native.Mathlib.Numerals.{add-one}
 use native.Mathlib.Omega.{arith}
@@ -11,7 +11,9 @@ use borrow.Rule.Slice.PartMut.{put_mid}
 use lib.Seq.{set_split, drop-drop}
 use Rattle.wire.specs.Fields.{put_at}
 use Rattle.wire.proofs.Laws.{length-put, put-put}
+use Rattle.text.specs.Numbers.{decimal_of}
 use Rattle.text.specs.Puts.{Room, Put}
+use Rattle.text.proofs.Numbers.{decimal-one, decimal-more}
 
 -- nothing, and one store
 pub nothing : (out : List ℕ) (at : ℕ) → Put out at [] at out
@@ -53,3 +55,23 @@ unfolding put_at
 copied out src part at room e =
     let size : at + length src - at ≡ length src = omega arith in
     record { place = refl; bytes = rw (e, size, drop-drop (length src) at out) }
+
+-- ---- the digits of a number
+
+module _ {out : List ℕ} {at n : ℕ} (room : Room out at (decimal_of n)) where
+  pub room-one : n < 10 → Room out at ((48 + n % 10) ∷ [])
+  room-one h = rw (decimal-one n h) at room
+
+  pub put_one : {next : ℕ} {after : List ℕ} → n < 10 → Put out at ((48 + n % 10) ∷ []) next after → Put out at (decimal_of n) next after
+  put_one h put = rw (decimal-one n h) put
+
+  module _ (h : 10 ≤ n) (l : n < 2 ^ 64) where
+    pub room-higher : Room out at (decimal_of (n / 10))
+    room-higher = room-first (decimal_of (n / 10)) ((48 + n % 10) ∷ []) (rw (decimal-more n h l) at room)
+
+    module _ {next : ℕ} {after : List ℕ} (higher : Put out at (decimal_of (n / 10)) next after) where
+      pub room-last : Room after next ((48 + n % 10) ∷ [])
+      room-last = room-left higher ((48 + n % 10) ∷ []) (rw (decimal-more n h l) at room)
+
+      pub then-last : {last : ℕ} {end : List ℕ} → Put after next ((48 + n % 10) ∷ []) last end → Put out at (decimal_of n) last end
+      then-last lower = rw (decimal-more n h l) (then higher (rw (decimal-more n h l) at room) lower)

@@ -15,6 +15,10 @@ abbrev pub line : List (List ℕ) → List ℕ
 line [] = 10 ∷ []
 line (field ∷ fields) = field ++ rest fields
 
+-- error (i32), trigger (u32) and level (i32) of a point, from its 16 bytes of the report
+abbrev pub amounts_of : List ℕ → List (List ℕ)
+amounts_of r = whole_of (whole_at r 4) ∷ decimal_of (word_at r 8) ∷ whole_of (whole_at r 12) ∷ []
+
 -- a point's line, from its 16 bytes of the report: status, mark, small run and large run, a byte each, error (i32), trigger (u32),
 -- level (i32)
 unfoldable pub line_of : ℕ → ℕ → List ℕ → List ℕ
