@@ -1,11 +1,12 @@
 #!/usr/bin/env python3
-"""What the four programs do with their descriptors, on data folders of tests/.
+"""What the programs do with their descriptors, on data folders of tests/ and on standard input.
 
-    programs.py BIN    BIN is the folder of monitor_main, replay, response_day and response_ledger
+    programs.py BIN    BIN is the folder of monitor_main, replay, response_day, response_ledger, bench_monitor and trials
 
 - A write that fails ends the run, with one line on standard error that names the program and standard output.
 - An interval, a call of a list, and a day, is answered in one write.
 - Nothing is held back by monitor_main, replay and response_ledger: an answer can be read before the next interval or call is sent.
+- A case of the trials is answered by its label, whatever bytes that is.
 """
 
 import contextlib
@@ -22,6 +23,7 @@ import sys
 import tempfile
 
 TESTS = pathlib.Path(__file__).resolve().parent
+CRATES = TESTS.parent / "crates"
 SECONDS = 10  # the longest that a run, or an answer, may take
 
 
@@ -93,14 +95,31 @@ def started(program, work, output):
 # ---- the checks
 
 
-def failed_write(program, folder):
-    with copied(folder) as work, open("/dev/full", "wb") as full:
-        ended = subprocess.run(
-            [program], cwd=work, stdin=subprocess.DEVNULL, stdout=full, stderr=subprocess.PIPE, timeout=SECONDS)
+def told_of_a_failed_write(program, work, given):
+    with open("/dev/full", "wb") as full:
+        ended = subprocess.run([program], cwd=work, input=given, stdout=full, stderr=subprocess.PIPE, timeout=SECONDS)
     said = ended.stderr
     ensure(said.count(b"\n") == 1 and said.endswith(b"\n"), f"{said.count(10)} lines on standard error, not one")
     ensure(said.startswith(program.name.encode() + b": standard output"), f"standard error begins {said[:40]!r}")
+    ensure(ended.returncode == 0, f"the exit status is {ended.returncode}, not 0")
     return "a write that fails ends the run, with one line on standard error"
+
+
+def failed_write(program, folder):
+    with copied(folder) as work:
+        return told_of_a_failed_write(program, work, b"")
+
+
+def failed_write_of_input(program, folder):
+    return told_of_a_failed_write(program, folder, (folder / "stdin").read_bytes())
+
+
+def any_label(program, folder):
+    """Registers of no bytes, which are refused 1, in a block of trial 4: labels of one byte, and each register's length in two bytes."""
+    given = b"\4" + b"\1\xff\0\0" + b"\1a\0\0"
+    ended = subprocess.run([program], cwd=folder, input=given, stdout=subprocess.PIPE, timeout=SECONDS)
+    ensure(ended.stdout == b"\xff: refused 1\na: refused 1\n", f"what is printed begins {ended.stdout[:40]!r}")
+    return "a label that is no text is printed as it is, and the cases behind it are run"
 
 
 def one_write_each(program, folder, answers):
@@ -151,6 +170,9 @@ def checks(programs):
         (response_ledger, TESTS / "ledgers" / "each_answer"),
     ):
         yield program, folder, failed_write, ()
+    for name in "bench_monitor", "trials":
+        yield programs / name, CRATES / name, failed_write_of_input, ()
+    yield programs / "trials", CRATES / "trials", any_label, ()
     for name in "largest", "chain", "refused_21":
         folder = TESTS / "program" / name
         yield monitor_main, folder, one_write_each, (interval_answers(folder),)

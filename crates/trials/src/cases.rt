@@ -2,8 +2,9 @@
 
 ghost use Rattle.std.specs.Prelude.{◌≡◌, ◌↔◌, ◌+◌, ◌%◌, ◌/◌, ◌≤◌, ◌∷◌, ◌++◌, length, get_or, IfSome, IsSome};
 
-use std::io::Read;
-use std::{io, str};
+use output::Output;
+use std::io::{Eprint, Print, Read};
+use text::Field;
 
 // A block: the number of a trial, and cases of it, of which none begins that ends in another block.
 const BLOCK: usize = 65537;
@@ -29,21 +30,25 @@ pub fn long_sized<'a>(cases: &mut &'a [u8]) -> Option<&'a [u8]>
     cases.split_off(..usize::from(u16::from_le_bytes([*low, *high])))
 }
 
-// Text with its number of bytes before it.
-pub fn label<'a>(cases: &mut &'a [u8]) -> Option<&'a str>
-    ensures { IfSome result (λ text. cases.old.now ≡ length text.now ∷ (text.now ++ cases.new.now)) }
-{
-    str::from_utf8(sized(cases)?).ok()
+// Room for the longest label and what stands behind it in any line.
+const LINE: usize = 512;
+
+// The line of a case, in one write: its label, which may be any bytes, and right behind it the fields. Says whether that went well.
+pub fn write_line<R: Print + Eprint>(output: &Output<R>, label: &[u8], fields: &[Field]) -> bool {
+    let mut line = [0; LINE];
+    let behind = text::put_fields(&mut line, 0, &[Field::Words(label)]);
+    let length = text::put_line(&mut line, behind, fields);
+    match line.get(..length) {
+        Some(text) => output.write(text),
+        None => false,
+    }
 }
 
-// Runs `case` on the number of a block's trial and what is left of the block, until there is no further case in it. The
-// closure holds what it prints to, and is given the rest.
+// Runs `case` on the number of a block's trial and what is left of the block, until there is no further case in it, or what it writes
+// fails. The closure holds what it prints to, and is given the rest.
 //
 // It promises nothing: no contract can say what standard input holds, and so which cases are run.
-pub fn run<I: Read, F: Fn(u8, &mut &[u8]) -> Option<io::Result<()>> + Drop>(
-    input: &mut I,
-    case: F,
-) -> io::Result<()>
+pub fn run<I: Read, F: Fn(u8, &mut &[u8]) -> Option<bool> + Drop>(input: &mut I, case: F)
     requires { F.IsAlwaysCallable case }
 {
     let mut block = [0; BLOCK];
@@ -51,15 +56,15 @@ pub fn run<I: Read, F: Fn(u8, &mut &[u8]) -> Option<io::Result<()>> + Drop>(
         let count = input::read_full(input, &mut block);
         let mut cases = &block[..count];
         let Some(trial) = cases.split_off_first() else {
-            break;
+            return;
         };
         // A case has at least a byte.
         for _ in 0..count {
             match case(*trial, &mut cases) {
-                Some(printed) => printed?,
+                Some(true) => (),
+                Some(false) => return,
                 None => break,
             }
         }
     }
-    Ok(())
 }

@@ -7,18 +7,19 @@ ghost use Rattle.aggregates.specs.Sizes.{SmallSums};
 use crate::{cases, samples};
 use aggregates::Sums;
 use marks::{Assessment, Mark, Sight};
-use std::io;
-use std::io::Print;
+use output::Output;
+use std::io::{Eprint, Print};
+use text::Field;
 
 // Words that this program alone prints, so they are no `Display` of `marks`.
-fn name_of(mark: Mark) -> &'static str {
+fn name_of(mark: Mark) -> &'static [u8] {
     match mark {
-        Mark::Off => "OFF",
-        Mark::Blank => "BLANK",
-        Mark::Clear => "CLEAR",
-        Mark::Doubt => "DOUBT",
-        Mark::Small => "SMALL",
-        Mark::Large => "LARGE",
+        Mark::Off => b"OFF",
+        Mark::Blank => b"BLANK",
+        Mark::Clear => b"CLEAR",
+        Mark::Doubt => b"DOUBT",
+        Mark::Small => b"SMALL",
+        Mark::Large => b"LARGE",
     }
 }
 
@@ -70,8 +71,8 @@ fn assess(form: Form, units: &[[u8; 82]], count: usize) -> Assessment
 }
 
 // A case is a label, its form by a number, how many units it has, and how many units are given, which follow.
-pub(crate) fn run_case<R: Print>(rt: &R, cases: &mut &[u8]) -> Option<io::Result<()>> {
-    let label = cases::label(cases)?;
+pub(crate) fn run_case<R: Print + Eprint>(output: &Output<R>, cases: &mut &[u8]) -> Option<bool> {
+    let label = cases::sized(cases)?;
     let form = Form::from(*cases.split_off_first()?);
     let count = usize::from(*cases.split_off_first()?);
     let given = usize::from(*cases.split_off_first()?);
@@ -80,11 +81,12 @@ pub(crate) fn run_case<R: Print>(rt: &R, cases: &mut &[u8]) -> Option<io::Result
         return None;
     }
     let a = assess(form, units, count);
-    Some(println!(rt;
-        "{label}: {} {} {} {}",
-        name_of(a.mark),
-        a.error,
-        a.trigger,
-        a.level
-    ))
+    let fields = [
+        Field::Words(b":"),
+        Field::Words(name_of(a.mark)),
+        Field::I32(a.error),
+        Field::U32(a.trigger),
+        Field::I32(a.level),
+    ];
+    Some(cases::write_line(output, label, &fields))
 }

@@ -3,7 +3,7 @@ use Rattle.std.proofs.Common.{arith, sym, ◌∙◌}
 use Rattle.plants.proofs.Soundness.{sound-units}
 use Rattle.register.proofs.Accepted.{accepted-sound}
 use Rattle.passes.specs.Seen.{seen_at}
-use Rattle.trials.proofs.passes_trial.print_case.Goals as goal
+use Rattle.trials.proofs.passes_trial.write_case.Goals as goal
 
 pub assess_aggregates-passes-requires : goal.assess_aggregates-passes-requires
 unfolding seen_at
