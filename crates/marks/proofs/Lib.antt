@@ -2,6 +2,7 @@
 pub mod Small
 pub mod Numbers
 pub mod Fields
+pub mod Held
 pub mod Rows
 pub mod SemiScheduled
 pub mod Levels

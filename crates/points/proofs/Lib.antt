@@ -2,5 +2,6 @@
 pub mod Lengths16
 pub mod Levels
 pub mod Statuses
+pub mod Outcomes
 pub mod Counts
 pub mod Layouts

@@ -1,12 +1,13 @@
 -- A step by the bytes that were read. Assumes nothing.
-use mathlib.Core.Path.{◌≡◌, refl, sym}
+use mathlib.Core.Path.{◌≡◌, refl, sym, ap}
 use mathlib.Core.List.{List, [], ◌∷◌}
 use Prim.Native.Nat.{ℕ}
 use native.Mathlib.Omega.{arith}
 use lib.ListN.{length}
-use Rattle.std.specs.Prelude.{Result, ℤ}
+use Rattle.std.specs.Prelude.{Result, Ok, Err, ℤ}
+use Rattle.std.specs.Result.{result_and}
 use Rattle.intervals.specs.Assessments.{header_of, number_of}
-use Rattle.intervals.specs.Intervals.{state_after, interval_of, report_of}
+use Rattle.intervals.specs.Intervals.{Verdict, state_after, interval_verdict, interval_of, monitor_after, report_after, report_of, decide}
 use Rattle.intervals.specs.declared.CallRefusal.{CallRefusal}
 use Rattle.operators.specs.Operators.{declare, reinstate, operated_of}
 use Rattle.monitor.specs.Calls.{interval, operate}
@@ -37,3 +38,19 @@ declare-so m level p e = rw (sym e)
 pub reinstate-so : (m : Monitor) (p : ℕ) {r : Result Monitor CallRefusal} → r ≡ operated_of reinstate m p
     → made_call m (operate reinstate p) ≡ answered (state_after m r) (reinstate_text r)
 reinstate-so m p e = rw (sym e)
+
+-- ---- what the report buffer held does not matter
+
+module _ (m : Monitor) (buffer : List ℕ) where
+  text-by : (v : Verdict) (r s : List ℕ)
+      → interval_text (result_and v (Ok (monitor_after m buffer))) (number_of (header_of buffer)) (decide v (λ k. r) (report_after m buffer))
+      ≡ interval_text (result_and v (Ok (monitor_after m buffer))) (number_of (header_of buffer)) (decide v (λ k. s) (report_after m buffer))
+  unfolding interval_text
+  text-by (Ok x) r s = refl
+  text-by (Err k) r s = refl
+
+  pub same-interval : (r s : List ℕ) → length r ≡ length s → made_call m (interval buffer r) ≡ made_call m (interval buffer s)
+  unfolding interval_of report_of
+  same-interval r s e =
+      let v = interval_verdict m buffer (length s) in
+      rw e (ap (λ (t : List ℕ). answered (state_after m (result_and v (Ok (monitor_after m buffer)))) t) (text-by v r s))
