@@ -73,10 +73,10 @@ pub fn indices_in(chains: Chains) -> bool
 impl ChainsInRange {
     // The region of the point at a place: a unit's own, or that of an aggregate's first member; 0 past the points.
     #[tactic(auto, using(crate::proofs::Regions::read))]
-    fn region(self, i: usize) -> u8
-        ensures { result ≡ cond (ltb i (self.chains.units + self.chains.aggregates)) (region_at self.chains i) 0 }
+    fn region(&self, i: usize) -> u8
+        ensures { result ≡ cond (ltb i (self.now.chains.units + self.now.chains.aggregates)) (region_at self.now.chains i) 0 }
     {
-        let chains = self.chains;
+        let chains = &self.chains;
         if i < chains.units {
             return chains.regions[i];
         }
@@ -87,9 +87,9 @@ impl ChainsInRange {
         0
     }
 
-    // The region of each point.
-    pub fn point_regions(self) -> [u8; 80]
-        ensures { result ≡ point_regions self.chains }
+    // The region of each point. The chains are lent: by value they would be copied for each point.
+    pub fn point_regions(&self) -> [u8; 80]
+        ensures { result ≡ point_regions self.now.chains }
     {
         array::from_fn(|i| self.region(i))
     }

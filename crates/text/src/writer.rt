@@ -45,8 +45,8 @@ fn put_digits(out: &mut [u8], at: usize, n: u64) -> usize
     put_digit(out, last, n)
 }
 
-// Each function that puts a text asks room for its own, so the room is no invariant of the writer. The small ones are put into their callers,
-// so that the place of a writer stays in a register.
+// Each function that puts a text asks room for its own, so the room is no invariant of the writer. Those that put a byte, a number or a field
+// are put into their callers, so that the place of a writer stays in a register.
 #[derive(Drop)]
 pub(crate) struct Writer<'a> {
     pub(crate) out: &'a mut [u8],
