@@ -27,9 +27,9 @@ pub struct Walked {
 impl Walk {
     // One unit more, where there is room in the list.
     #[tactic(auto, unfolding(crate::specs::Walks::step_to))]
-    fn step_to(mut self, place: u8) -> Walk
-        requires { (place < 64) × (self.steps < 2000) }
-        ensures { result ≡ step_to self place }
+    fn step_to(&mut self, place: u8)
+        requires { (place < 64) × (self.old.steps < 2000) }
+        ensures { self.new ≡ step_to self.old place }
     {
         let i = usize::from(place);
         self.twice |= self.met[i];
@@ -40,22 +40,21 @@ impl Walk {
             self.members[at] = place;
         }
         self.steps += 1;
-        self
     }
 }
 
 impl ChainsInRange {
     // Along one chain. 65 steps are enough to end it, or to meet a unit again.
-    fn walk_chain(self, mut walk: Walk, head: u8) -> Walk
-        requires { (head ≤ self.chains.units) × (walk.steps ≤ 1000) }
-        ensures { result ≡ walked walk (chain self.chains.next 65 head) }
+    fn walk_chain(&self, mut walk: Walk, head: u8) -> Walk
+        requires { (head ≤ self.now.chains.units) × (walk.steps ≤ 1000) }
+        ensures { result ≡ walked walk (chain self.now.chains.next 65 head) }
     {
         let mut unit = head;
         for _ in 0..65u8 {
             let Some(place) = unit.checked_sub(1) else {
                 return walk;
             };
-            walk = walk.step_to(place);
+            walk.step_to(place);
             unit = self.chains.next[usize::from(place)];
         }
         walk
@@ -63,8 +62,8 @@ impl ChainsInRange {
 
     // Chain after chain: a stretch starts where the one before it ends. A walk that meets units twice may be longer than a byte says; `as` keeps
     // the remainder of its starts and counts, for which `u8::try_from` would need another value.
-    pub fn walk_chains(self) -> Walked
-        ensures { (result.walk ≡ walked unwalked (all_members self.chains)) × (result.stretches ≡ stretches_walked self.chains) }
+    pub fn walk_chains(&self) -> Walked
+        ensures { (result.walk ≡ walked unwalked (all_members self.now.chains)) × (result.stretches ≡ stretches_walked self.now.chains) }
     {
         let mut walk = Walk::default();
         let mut stretches = [Stretch::default(); 16];

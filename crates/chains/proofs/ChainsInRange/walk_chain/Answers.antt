@@ -9,7 +9,7 @@ pub loop-preserved : goal.loop-preserved
 loop-preserved c =
     let unit = c.in-Some.ensures in
     rw c.from.ensures
-    (along-more _ _ _ c.args.self.walkable _ _ _ _ _ c.loop-test.true unit.0 c.loop.invariant unit.1 c.step_to-walk.ensures)
+    (along-more _ _ _ c.args.self.now.walkable _ _ _ _ _ c.loop-test.true unit.0 c.loop.invariant unit.1 c.step_to.ensures)
 
 pub returns : goal.returns
 returns c = search (rules, along-out)

@@ -11,7 +11,7 @@ loop-j-init c =
     let met : c.default-walk.result.met ≡ replicate 64 false = search (rules, same-each) in
     let members : c.default-walk.result.members ≡ replicate 64 0 = search (rules, same-each) in
     let fresh : c.default-walk.result ≡ unwalked = search (rules, met, members) in
-    rw (none, fresh) (across-none c.args.self.chains c.args.self.walkable)
+    rw (none, fresh) (across-none c.args.self.now.chains c.args.self.now.walkable)
 
 pub walk_chain-walk-requires : goal.walk_chain-walk-requires
 walk_chain-walk-requires c = search (rules, head-inside)
