@@ -193,7 +193,7 @@ impl Writer<'_> {
         self.put_byte(b'\n');
     }
 
-    // The line of a point from its record, field by field: by an array of its fields a run of `monitor_main` takes a fifth more time.
+    // The line of a point from its record, field by field: by an array of its fields a run of `monitor_main` takes a third more time.
     #[inline(always)]
     fn put_point(&mut self, interval: u32, point: u64, r: &[u8; 16])
         requires { RoomFor self.old (line_of interval point r.now) }
