@@ -21,16 +21,6 @@ more (suc k) n h =
     let tens : n / 10 < 10 ^ suc k = omega (arith, h, pow-suc 10 (suc k)) in
     ap (λ (l : List ℕ). cond (ltb n 10) [] l ++ ((48 + n % 10) ∷ [])) (more k (n / 10) tens)
 
-pub decimal-one : (n : ℕ) → n < 10 → decimal_of n ≡ (48 + n % 10) ∷ []
-unfolding decimal_of decimal_by
-decimal-one n h = rw (lt-ltb n 10 h)
-
-pub decimal-more : (n : ℕ) → 10 ≤ n → n < 2 ^ 64 → decimal_of n ≡ decimal_of (n / 10) ++ ((48 + n % 10) ∷ [])
-unfolding decimal_of decimal_by
-decimal-more n h l =
-    let tens : n / 10 < 10 ^ 19 = omega arith in
-    rw (le-ltb n 10 h) (ap (λ (l : List ℕ). l ++ ((48 + n % 10) ∷ [])) (more 18 (n / 10) tens))
-
 -- the digits of n before the last
 abbrev pub higher : ℕ → List ℕ
 higher n = cond (ltb n 10) [] (decimal_of (n / 10))
@@ -46,6 +36,12 @@ unfolding decimal_of decimal_by
 decimal-higher n h =
     let tens : n / 10 < 10 ^ 19 = omega arith in
     ap (λ (l : List ℕ). cond (ltb n 10) [] l ++ ((48 + n % 10) ∷ [])) (more 18 (n / 10) tens)
+
+pub decimal-one : (n : ℕ) → n < 10 → decimal_of n ≡ (48 + n % 10) ∷ []
+decimal-one n h = rw (higher-none n h) at (decimal-higher n (omega arith))
+
+pub decimal-more : (n : ℕ) → 10 ≤ n → n < 2 ^ 64 → decimal_of n ≡ decimal_of (n / 10) ++ ((48 + n % 10) ∷ [])
+decimal-more n h l = rw (higher-some n h) at (decimal-higher n l)
 
 -- k digits hold what is below 10 ^ k
 length-by : (limit k n : ℕ) → n < 10 ^ suc k → length (decimal_by limit n) ≤ suc k

@@ -30,10 +30,7 @@ line_of interval point r =
     ∷ decimal_of (get_or r 1 0)
     ∷ decimal_of (get_or r 2 0)
     ∷ decimal_of (get_or r 3 0)
-    ∷ whole_of (whole_at r 4)
-    ∷ decimal_of (word_at r 8)
-    ∷ whole_of (whole_at r 12)
-    ∷ []
+    ∷ amounts_of r
     )
 
 -- all lines of a report: points are numbered from 1

@@ -33,7 +33,8 @@ pub fn long_sized<'a>(cases: &mut &'a [u8]) -> Option<&'a [u8]>
 // Room for the longest label and what stands behind it in any line.
 const LINE: usize = 512;
 
-// The line of a case, in one write: its label, which may be any bytes, and right behind it the fields. Says whether that went well.
+// The line of a case, in one write: its label, which may be any bytes, and right behind it the fields. Says whether that went well. It promises
+// nothing: no contract can say what is written.
 pub fn write_line<R: Print + Eprint>(output: &Output<R>, label: &[u8], fields: &[Field]) -> bool {
     let mut line = [0; LINE];
     let behind = text::put_fields(&mut line, 0, &[Field::Words(label)]);

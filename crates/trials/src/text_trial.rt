@@ -1,29 +1,20 @@
 // Numbers through `text`, and what is left of short buffers. Every expected line (tools/trial_text.txt) is worked out
 // by hand.
 
+use crate::cases;
 use output::Output;
 use std::io::{Eprint, Print};
 use text::Field;
 
-// A line of fields, in one write. Says whether that went well.
-fn write_line<R: Print + Eprint>(output: &Output<R>, fields: &[Field]) -> bool {
-    let mut line = [0; 128];
-    let length = text::put_line(&mut line, 0, fields);
-    match line.get(..length) {
-        Some(text) => output.write(text),
-        None => false,
-    }
-}
-
 fn write_field<R: Print + Eprint>(output: &Output<R>, field: Field) -> bool {
     let mut out = [0; 32];
     let next = text::put_fields(&mut out, 0, &[field]);
-    write_line(output, &[Field::Words(out.get(..next).unwrap_or(&[]))])
+    cases::write_line(output, b"", &[Field::Words(out.get(..next).unwrap_or(&[]))])
 }
 
 // The next place, and the bytes of the buffer.
 fn write_buffer<R: Print + Eprint>(output: &Output<R>, next: usize, bytes: &[u8]) -> bool {
-    write_line(output, &[Field::U64(next as u64), Field::Words(bytes)])
+    cases::write_line(output, b"", &[Field::U64(next as u64), Field::Words(bytes)])
 }
 
 // A signed number takes at most 11 bytes, so it is put into 12 from place 0 or 1 alone.
